@@ -1,0 +1,147 @@
+// The monitor's calls for programs in C or Rust that link the static library: each is one call of `monitor`, under its
+// contract. A slice is passed as a pointer and a length. The header is include/cells.h.
+ghost use mathlib.Core.Path.{_≡_};
+ghost use lib.ListN.{length};
+ghost use Rattle.rules.specs.Numbers.{tables, state};
+ghost use Rattle.rules.specs.Calls.{instruction, blockWrite, performed};
+ghost use Rattle.monitor.specs.Ready.{viewPlaceIn, came};
+ghost use Rattle.monitor.specs.Runs.{roomFor, afterFirst, numbersIn, valuesIn};
+use monitor::Reply;
+use monitor::ViewPlace;
+use rules::Registers;
+
+// One instruction, given as four numbers.
+#[no_mangle]
+pub extern "C" fn cells_execute(
+    m: usize,
+    first: &[u32],
+    last: &[u32],
+    offset: &[u32],
+    marks: &mut [u8],
+    rights: &mut [u8],
+    grants: &mut [u16],
+    memory: &mut [u8],
+    registers: Registers,
+    number: u32,
+    x: u32,
+    y: u32,
+    z: u32,
+) -> Reply
+    ensures { λ r. ⌜ came r (tables m (now (first .entry)) (now (last .entry)) (now (offset .entry)) (now (marks .exit)) (now (rights .exit)) (now (grants .exit)) (now (memory .exit))) ≡ performed (state (tables m (now (first .entry)) (now (last .entry)) (now (offset .entry)) (now (marks .entry)) (now (rights .entry)) (now (grants .entry)) (now (memory .entry))) registers) (instruction number x y z) ⌝ }
+{
+    monitor::execute(
+        m,
+        first,
+        last,
+        offset,
+        marks,
+        rights,
+        grants,
+        memory,
+        registers,
+        number,
+        x,
+        y,
+        z,
+    )
+}
+
+// Instructions in turn, four numbers each, with their answers in two lists.
+#[no_mangle]
+pub extern "C" fn cells_execute_all(
+    m: usize,
+    first: &[u32],
+    last: &[u32],
+    offset: &[u32],
+    marks: &mut [u8],
+    rights: &mut [u8],
+    grants: &mut [u16],
+    memory: &mut [u8],
+    registers: Registers,
+    instructions: &[u32],
+    numbers: &mut [u32],
+    values: &mut [u32],
+) -> Registers
+    ensures { λ r. ⌜ state (tables m (now (first .entry)) (now (last .entry)) (now (offset .entry)) (now (marks .exit)) (now (rights .exit)) (now (grants .exit)) (now (memory .exit))) r ≡ afterFirst (state (tables m (now (first .entry)) (now (last .entry)) (now (offset .entry)) (now (marks .entry)) (now (rights .entry)) (now (grants .entry)) (now (memory .entry))) registers) (now (instructions .entry)) (roomFor (length (now (instructions .entry))) (length (now (numbers .entry))) (length (now (values .entry)))) ⌝ }
+    ensures { λ r. ⌜ now (numbers .exit) ≡ numbersIn (state (tables m (now (first .entry)) (now (last .entry)) (now (offset .entry)) (now (marks .entry)) (now (rights .entry)) (now (grants .entry)) (now (memory .entry))) registers) (now (instructions .entry)) (roomFor (length (now (instructions .entry))) (length (now (numbers .entry))) (length (now (values .entry)))) (now (numbers .entry)) ⌝ }
+    ensures { λ r. ⌜ now (values .exit) ≡ valuesIn (state (tables m (now (first .entry)) (now (last .entry)) (now (offset .entry)) (now (marks .entry)) (now (rights .entry)) (now (grants .entry)) (now (memory .entry))) registers) (now (instructions .entry)) (roomFor (length (now (instructions .entry))) (length (now (numbers .entry))) (length (now (values .entry)))) (now (values .entry)) ⌝ }
+{
+    monitor::execute_all(
+        m,
+        first,
+        last,
+        offset,
+        marks,
+        rights,
+        grants,
+        memory,
+        registers,
+        instructions,
+        numbers,
+        values,
+    )
+}
+
+// A block write.
+#[no_mangle]
+pub extern "C" fn cells_write_block(
+    m: usize,
+    first: &[u32],
+    last: &[u32],
+    offset: &[u32],
+    marks: &[u8],
+    rights: &[u8],
+    grants: &[u16],
+    memory: &mut [u8],
+    registers: Registers,
+    x: u32,
+    bytes: &[u8],
+) -> Reply
+    ensures { λ r. ⌜ came r (tables m (now (first .entry)) (now (last .entry)) (now (offset .entry)) (now (marks .entry)) (now (rights .entry)) (now (grants .entry)) (now (memory .exit))) ≡ performed (state (tables m (now (first .entry)) (now (last .entry)) (now (offset .entry)) (now (marks .entry)) (now (rights .entry)) (now (grants .entry)) (now (memory .entry))) registers) (blockWrite x (now (bytes .entry))) ⌝ }
+{
+    monitor::write_block(
+        m,
+        first,
+        last,
+        offset,
+        marks,
+        rights,
+        grants,
+        memory,
+        registers,
+        x,
+        bytes,
+    )
+}
+
+// A read view's answer, with the place of its part in the memory: no reference can be handed out to C.
+#[no_mangle]
+pub extern "C" fn cells_view(
+    m: usize,
+    first: &[u32],
+    last: &[u32],
+    offset: &[u32],
+    marks: &[u8],
+    rights: &[u8],
+    grants: &[u16],
+    memory: &[u8],
+    registers: Registers,
+    x: u32,
+    n: usize,
+) -> ViewPlace
+    ensures { λ r. ⌜ r ≡ viewPlaceIn (state (tables m (now (first .entry)) (now (last .entry)) (now (offset .entry)) (now (marks .entry)) (now (rights .entry)) (now (grants .entry)) (now (memory .entry))) registers) x n ⌝ }
+{
+    monitor::view_place(
+        m,
+        first,
+        last,
+        offset,
+        marks,
+        rights,
+        grants,
+        memory,
+        registers,
+        x,
+        n,
+    )
+}

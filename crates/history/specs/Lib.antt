@@ -1,0 +1,3 @@
+-- Histories of rights and of bytes.
+pub mod History
+pub mod Shown

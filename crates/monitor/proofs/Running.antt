@@ -1,0 +1,91 @@
+-- Laws of instructions one after the other: a turn of the loop, and a list that is refused as a whole. Assumes nothing.
+use Prim.Native.Nat.{ℕ, zero, suc, _+_, _*_, _/_, _≤_, _<_, min}
+use mathlib.Core.Path.{_≡_, refl, sym, ap, _∙_, subst}
+use mathlib.Core.List.{List, [], _∷_}
+use native.Mathlib.Omega.{arith}
+use native.Mathlib.Numerals.{add-one}
+use lib.ListN.{length, getD, set, length-set}
+use Rattle.rules.specs.Numbers.{State}
+use Rattle.rules.specs.Refusals.{Outcome, refused}
+use Rattle.rules.specs.Calls.{Action, performed}
+use Rattle.rules.specs.declared.Answer.{Answer}
+use Rattle.rules.proofs.Kept.{Begun, SameShape, shape-same, shape-then}
+use Rattle.rules.proofs.Laws.{begun-kept, shape-kept}
+use Rattle.monitor.specs.Ready.{firstAnswer}
+use Rattle.monitor.specs.Runs.{instructionAt, roomFor, afterFirst, numbersIn, valuesIn, filled}
+use Rattle.monitor.proofs.Beginning.{refusedBy, first-refuse}
+
+-- ---- room
+
+pub room-whole : (i n v : ℕ) → 4 * roomFor i n v ≤ i
+unfolding roomFor
+room-whole i n v = omega arith
+
+pub room-numbers : (i n v : ℕ) → roomFor i n v ≤ n
+unfolding roomFor
+room-numbers i n v = omega arith
+
+pub room-values : (i n v : ℕ) → roomFor i n v ≤ v
+unfolding roomFor
+room-values i n v = omega arith
+
+-- ---- a turn
+
+-- after k instructions from s the state is u, and the answers stand in the two lists
+pub record Turn (s : State) (l numbers values : List ℕ) (k : ℕ) (u : State) (ns vs : List ℕ) : Type 0 where
+  pub at : u ≡ afterFirst s l k
+  pub begun : Begun u
+  pub shape : SameShape (s .lent) (u .lent)
+  pub numbered : ns ≡ numbersIn s l k numbers
+  pub valued : vs ≡ valuesIn s l k values
+  pub long : length ns ≡ length numbers
+  pub wide : length vs ≡ length values
+
+pub turn-first : (s : State) (l numbers values : List ℕ) → Begun s → Turn s l numbers values 0 s numbers values
+unfolding afterFirst numbersIn valuesIn
+turn-first s l numbers values b = record { at = refl; begun = b; shape = shape-same (s .lent); numbered = refl; valued = refl; long = refl; wide = refl }
+
+pub turn-next : {s : State} {l numbers values : List ℕ} {k : ℕ} {u : State} {ns vs : List ℕ} (o : Outcome) → Turn s l numbers values k u ns vs
+    → o ≡ performed u (instructionAt l k)
+    → Turn s l numbers values (k + 1) (o .after) (set ns k (o .number)) (set vs k (o .value))
+unfolding afterFirst numbersIn valuesIn
+turn-next {s} {l} {numbers} {values} {k} {u} {ns} {vs} o t e =
+    let q : o ≡ performed (afterFirst s l k) (instructionAt l k) = e ∙ ap (λ (w : State). performed w (instructionAt l k)) (t .at) in
+    record {
+      at = rw add-one (ap (λ (p : Outcome). p .after) q);
+      begun = subst (λ (p : Outcome). Begun (p .after)) (sym e) (begun-kept u (instructionAt l k) (t .begun));
+      shape = shape-then (t .shape) (subst (λ (p : Outcome). SameShape (u .lent) (p .after .lent)) (sym e) (shape-kept u (instructionAt l k)));
+      numbered = rw (add-one, ← q, t .numbered);
+      valued = rw (add-one, ← q, t .valued);
+      long = simp length-set (t .long);
+      wide = simp length-set (t .wide);
+    }
+
+-- ---- where check 1, 2 or 3 fails
+
+module _ (s : State) (a : Answer) (e : a ≡ firstAnswer s) (h : a .number ≡ 0 → ⊥) (l : List ℕ) where
+  refused-each : (k : ℕ) → performed s (instructionAt l k) ≡ refusedBy s a
+  refused-each k = sym (first-refuse s a e (instructionAt l k) h)
+
+  pub refused-state : (k : ℕ) → s ≡ afterFirst s l k
+  unfolding afterFirst
+  refused-state zero = refl
+  refused-state (suc k) =
+      sym (ap (λ (p : Outcome). p .after) (refused-each k))
+      ∙ ap (λ (u : State). performed u (instructionAt l k) .after) (refused-state k)
+
+  pub refused-numbers : (k : ℕ) (out : List ℕ) → filled (a .number) k out ≡ numbersIn s l k out
+  unfolding filled numbersIn
+  refused-numbers zero out = refl
+  refused-numbers (suc k) out = rw (← refused-state k, refused-each k, refused-numbers k out)
+
+  pub refused-values : (k : ℕ) (out : List ℕ) → filled (a .value) k out ≡ valuesIn s l k out
+  unfolding filled valuesIn
+  refused-values zero out = refl
+  refused-values (suc k) out = rw (← refused-state k, refused-each k, refused-values k out)
+
+-- ---- filling
+
+pub filled-more : (v k : ℕ) (out : List ℕ) → set (filled v k out) k v ≡ filled v (k + 1) out
+unfolding filled
+filled-more v k out = rw add-one

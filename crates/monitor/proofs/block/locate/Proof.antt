@@ -1,0 +1,114 @@
+use Prim.Native.Nat.{ℕ}
+use native.Mathlib.Omega.{arith}
+use denote.Ref.{now}
+use borrow.Author.Needs.{needs}
+use Rattle.rules.specs.Numbers.{State, state, tables}
+use Rattle.rules.specs.Instructions.{place}
+use Rattle.monitor.proofs.Readiness.{CellIn, cell-in, cells-rise, entry-in-rights}
+use Rattle.monitor.proofs.Searching.{FoundAt, found-at, nowhere-uncovered}
+use Rattle.monitor.proofs.Locating.{Judged, judged, located-nowhere, located-at, located-refused}
+use Rattle.monitor.proofs.block.locate.Statement.{statement}
+use Rattle.monitor.proofs.block.locate.Tie as tie
+
+abbrev st : tie.Start → State
+st c =
+    state
+    (tables (c .args .m) (now (c .args .first)) (now (c .args .last)) (now (c .args .offset)) (now (c .args .marks))
+    (now (c .args .rights)) (now (c .args .grants)) (now (c .args .memory)))
+    (c .args .registers)
+
+abbrev start : tie.After-shared-slice-known7 → tie.Start
+start c = c .before .before .before .before .before .before .before
+
+-- where a cell was found
+abbrev entry : tie.After-f → tie.Start
+entry c = start (c .before .before .before)
+
+abbrev cell : tie.After-f → ℕ
+cell c = c .f .given .0 .0
+
+found : (c : tie.After-f) → FoundAt (st (entry c) .lent) (entry c .args .x) (cell c)
+found c = found-at (st (entry c) .lent) _ _ (c .before .before .find .ensures) _ (c .f .given .1)
+
+inside : (c : tie.After-f) → CellIn (st (entry c) .lent) (cell c)
+inside c = cell-in _ (entry c .pre .sizes) _ (found c .cell .cell)
+
+-- where the judge has answered
+abbrev found-before : tie.After-judge-whole → tie.After-f
+found-before c = c .before .before .before .before .before .before .before
+
+answered : (c : tie.After-judge-whole)
+    → Judged (entry (found-before c) .args .needed) (st (entry (found-before c))) (entry (found-before c) .args .x)
+    (entry (found-before c) .args .n) (cell (found-before c)) (c .judge-whole .result)
+answered c =
+    let f = found-before c in
+    judged _ (st (entry f)) _ _ _ _ _ _ (found f) (c .before .within-cell .ensures)
+    (c .before .before .before .before .held-at .ensures) (c .judge-whole .ensures)
+
+find-requires : tie.Need-find-requires
+find-requires c κs = cells-rise (st (start c) .lent) (start c .pre .sizes) (start c .pre .sound)
+
+enum-told : tie.Need-enum-told
+enum-told c = search needs
+
+enum-known-f : tie.Need-enum-known-f
+enum-known-f c = search needs
+
+cast-held-at : tie.Need-cast-held-at
+cast-held-at c = search needs
+
+held-at-requires : tie.Need-held-at-requires
+held-at-requires c κs =
+    let f = c .before .before in
+    entry-in-rights (st (entry f) .lent) (entry f .pre .sizes) (cell f) (found f .cell .cell) _ (entry f .pre .current)
+
+shared-slice-read-judge-whole : tie.Need-shared-slice-read-judge-whole
+shared-slice-read-judge-whole c = inside (c .before .before .before .before) .marked
+
+mul-within-cell : tie.Need-mul-within-cell
+mul-within-cell c = omega (arith, inside (c .before .before .before .before) .lasts)
+
+shared-slice-read-within-cell : tie.Need-shared-slice-read-within-cell
+shared-slice-read-within-cell c = inside (c .before .before .before .before .before) .lasts
+
+within-cell-requires : tie.Need-within-cell-requires
+within-cell-requires c κs = found (c .before .before .before .before .before) .cell .to
+
+judge-whole-requires : tie.Need-judge-whole-requires
+judge-whole-requires c κs = search needs
+
+place-of-requires : tie.Need-place-of-requires
+place-of-requires c κs =
+    let f = found-before (c .before) in
+    (inside f .firsts, (inside f .offsets, found f .cell .from))
+
+returns : tie.Need-returns
+returns c =
+    let told = c .before .before in
+    located-nowhere _ _ _ _ (nowhere-uncovered (st (start (told .before)) .lent) _ _ (told .find .ensures) (c .enum-told .given .1))
+
+returns-2 : tie.Need-returns-2
+unfolding place
+returns-2 c = located-at (answered (c .before .before)) _ (c .before .if1 .taken) (c .place-of .ensures)
+
+returns-3 : tie.Need-returns-3
+returns-3 c = located-refused (answered (c .before)) (c .if1 .left)
+
+pub locate-spec : {M : Type 1} → statement M
+locate-spec =
+    tie.close
+    (tie.spec
+    find-requires
+    enum-told
+    enum-known-f
+    cast-held-at
+    held-at-requires
+    shared-slice-read-judge-whole
+    mul-within-cell
+    shared-slice-read-within-cell
+    within-cell-requires
+    judge-whole-requires
+    place-of-requires
+    returns
+    returns-2
+    returns-3)

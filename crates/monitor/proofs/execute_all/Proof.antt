@@ -1,0 +1,152 @@
+-- Checks 1, 2 and 3 once, and then the list, or every answer filled with their refusal.
+use borrow.Author.Needs.{needs}
+use Prim.Native.Nat.{ℕ, _≤_, _*_}
+use mathlib.Core.Path.{_≡_, ap, _∙_}
+use native.Mathlib.Omega.{arith}
+use lib.ListN.{length}
+use denote.Ref.{now}
+use Rattle.rules.specs.Numbers.{State, tables, state}
+use Rattle.monitor.specs.Runs.{roomFor, afterFirst, numbersIn, valuesIn}
+use Rattle.monitor.proofs.Beginning.{first-begun}
+use Rattle.monitor.proofs.Running.{room-whole, room-numbers, room-values, refused-state, refused-numbers, refused-values}
+use Rattle.monitor.proofs.execute_all.Statement.{statement}
+use Rattle.monitor.proofs.execute_all.Tie as tie
+
+-- where the room is counted, and the function's entry, from where checks 1, 2 and 3 have answered
+abbrev counted : tie.After-begin → tie.After-room-for
+counted c = c .before .before .before .before .before
+
+abbrev start : tie.After-begin → tie.Start
+start c = counted c .before .before .before .before .before .before .before .before .before .before .before
+
+abbrev st : tie.Start → State
+st c =
+    state
+    (tables (c .args .m) (now (c .args .first)) (now (c .args .last)) (now (c .args .offset)) (now (c .args .marks))
+    (now (c .args .rights)) (now (c .args .grants)) (now (c .args .memory)))
+    (c .args .registers)
+
+-- the three lists lent beside the tables are long enough for the count
+record Room (c : tie.After-begin) : Type 0 where
+  whole : 4 * counted c .room-for .result ≤ length (now (start c .args .instructions))
+  numbered : counted c .room-for .result ≤ length (now (start c .args .numbers))
+  valued : counted c .room-for .result ≤ length (now (start c .args .values))
+
+room : (c : tie.After-begin) → Room c
+room c =
+    let i = length (now (start c .args .instructions)) in
+    let n = length (now (start c .args .numbers)) in
+    let v = length (now (start c .args .values)) in
+    record {
+      whole = omega (arith, counted c .room-for .ensures, room-whole i n v);
+      numbered = omega (arith, counted c .room-for .ensures, room-numbers i n v);
+      valued = omega (arith, counted c .room-for .ensures, room-values i n v);
+    }
+
+room-for-requires : tie.Need-room-for-requires
+room-for-requires c κs = search needs
+
+begin-requires : tie.Need-begin-requires
+begin-requires c κs = search needs
+
+run-list-requires : tie.Need-run-list-requires
+run-list-requires c κs =
+    let begun = c .before .before .before .before .before .before in
+    let r = room (begun .before) in
+    (first-begun (st (start (begun .before))) _ (begun .before .begin .ensures) (begun .if1 .taken), (r .whole, (r .numbered, r .valued)))
+
+fill-requires : tie.Need-fill-requires
+fill-requires c κs = room (c .before .before) .numbered
+
+fill-requires-2 : tie.Need-fill-requires-2
+fill-requires-2 c κs = room (c .before .before .before .before .before .before) .valued
+
+same-length : tie.Need-same-length
+same-length c = search needs
+
+same-length-2 : tie.Need-same-length-2
+same-length-2 c = search needs
+
+same-length-3 : tie.Need-same-length-3
+same-length-3 c = search needs
+
+same-length-4 : tie.Need-same-length-4
+same-length-4 c = search needs
+
+same-length-5 : tie.Need-same-length-5
+same-length-5 c = search needs
+
+same-length-6 : tie.Need-same-length-6
+same-length-6 c = search needs
+
+returns : tie.Need-returns
+returns c =
+    let ran = c .before .before .before .before .before .before .before .before .before .before .before .before in
+    let begun = ran .before .before .before .before .before .before .before in
+    let s = start (begun .before) in
+    let l = s .args .instructions .now in
+    let e = counted (begun .before) .room-for .ensures in (
+      ran .run-list .ensures .0 ∙ ap (afterFirst (st s) l) e,
+      (
+        ran .run-list .ensures .1 .0 ∙ ap (λ (j : ℕ). numbersIn (st s) l j (s .args .numbers .now)) e,
+        ran .run-list .ensures .1 .1 ∙ ap (λ (j : ℕ). valuesIn (st s) l j (s .args .values .now)) e,
+      ),
+    )
+
+same-length-7 : tie.Need-same-length-7
+same-length-7 c = search needs
+
+same-length-8 : tie.Need-same-length-8
+same-length-8 c = search needs
+
+same-length-9 : tie.Need-same-length-9
+same-length-9 c = search needs
+
+same-length-10 : tie.Need-same-length-10
+same-length-10 c = search needs
+
+same-length-11 : tie.Need-same-length-11
+same-length-11 c = search needs
+
+same-length-12 : tie.Need-same-length-12
+same-length-12 c = search needs
+
+returns-2 : tie.Need-returns-2
+returns-2 c =
+    let last = c .before .before in
+    let first = last .before .before .before .before in
+    let refused = first .before .before in
+    let s = start (refused .before) in
+    let l = s .args .instructions .now in
+    let a = refused .before .begin .ensures in
+    let e = counted (refused .before) .room-for .ensures in (
+      refused-state (st s) _ a (refused .if1 .left) l _,
+      (
+        first .fill .ensures ∙ refused-numbers (st s) _ a (refused .if1 .left) l _ _ ∙ ap (λ (j : ℕ). numbersIn (st s) l j (s .args .numbers .now)) e,
+        last .fill2 .ensures ∙ refused-values (st s) _ a (refused .if1 .left) l _ _ ∙ ap (λ (j : ℕ). valuesIn (st s) l j (s .args .values .now)) e,
+      ),
+    )
+
+pub execute-all-spec : {M : Type 1} → statement M
+execute-all-spec =
+    tie.close
+    (tie.spec
+    room-for-requires
+    begin-requires
+    run-list-requires
+    fill-requires
+    fill-requires-2
+    same-length
+    same-length-2
+    same-length-3
+    same-length-4
+    same-length-5
+    same-length-6
+    returns
+    same-length-7
+    same-length-8
+    same-length-9
+    same-length-10
+    same-length-11
+    same-length-12
+    returns-2)

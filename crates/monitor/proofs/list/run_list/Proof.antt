@@ -1,0 +1,180 @@
+-- The loop's invariant: after `k` instructions the state is the definition's, and the answers stand in the two lists.
+use Prim.Native.Nat.{ℕ, _-_, _≤_}
+use mathlib.Core.Path.{_≡_, ap, _∙_}
+use native.Mathlib.Omega.{arith}
+use denote.Ref.{now}
+use Rattle.rules.specs.Numbers.{State, tables, state}
+use Rattle.monitor.specs.Runs.{afterFirst, numbersIn, valuesIn}
+use Rattle.monitor.proofs.Running.{Turn, turn-first, turn-next}
+use borrow.Author.Needs.{needs}
+use Rattle.monitor.proofs.list.run_list.Statement.{statement}
+use Rattle.monitor.proofs.list.run_list.Tie as tie
+use Rattle.monitor.proofs.list.run_list.Reads as reads
+use Rattle.monitor.proofs.list.run_list.Lts as lts
+use Rattle.monitor.proofs.step.perform.Reads as perform-reads
+
+abbrev Inv-loop : tie.InvT-loop
+Inv-loop m first last offset marks₀ rights₀ grants₀ memory₀ instructions count numbers₀ values₀ core₀ k₀ marks rights grants memory numbers values core k =
+    (k ≤ count)
+    × Turn (state (tables m first last offset marks₀ rights₀ grants₀ memory₀) core₀) instructions numbers₀ values₀ k
+    (state (tables m first last offset marks rights grants memory) core) numbers values
+
+abbrev μ-loop : tie.MeasureT-loop
+μ-loop m first last offset marks₀ rights₀ grants₀ memory₀ instructions count numbers₀ values₀ core₀ k₀ marks rights grants memory numbers values core k =
+    count - k
+
+abbrev start : tie.After-slice-known6 Inv-loop μ-loop → tie.Start Inv-loop μ-loop
+start c = c .before .before .before .before .before .before .before .before .before .before
+
+abbrev st : tie.Start Inv-loop μ-loop → State
+st c =
+    state
+    (tables (c .args .m) (now (c .args .first)) (now (c .args .last)) (now (c .args .offset)) (now (c .args .marks))
+    (now (c .args .rights)) (now (c .args .grants)) (now (c .args .memory)))
+    (c .args .registers)
+
+loop-holds : tie.Need-loop-holds Inv-loop μ-loop
+loop-holds c = (search needs, turn-first _ _ _ _ (start c .pre .0))
+
+mul-at : tie.Need-mul-at Inv-loop μ-loop
+mul-at c = search needs
+
+mul-perform : tie.Need-mul-perform Inv-loop μ-loop
+mul-perform c = search needs
+
+shared-slice-read-perform : tie.Need-shared-slice-read-perform Inv-loop μ-loop
+shared-slice-read-perform c = search needs
+
+add-perform : tie.Need-add-perform Inv-loop μ-loop
+add-perform c = search needs
+
+mul-perform-2 : tie.Need-mul-perform-2 Inv-loop μ-loop
+mul-perform-2 c = search needs
+
+shared-slice-read-perform-2 : tie.Need-shared-slice-read-perform-2 Inv-loop μ-loop
+shared-slice-read-perform-2 c = search needs
+
+add-perform-2 : tie.Need-add-perform-2 Inv-loop μ-loop
+add-perform-2 c = search needs
+
+mul-perform-3 : tie.Need-mul-perform-3 Inv-loop μ-loop
+mul-perform-3 c = search needs
+
+shared-slice-read-perform-3 : tie.Need-shared-slice-read-perform-3 Inv-loop μ-loop
+shared-slice-read-perform-3 c = search needs
+
+add-perform-3 : tie.Need-add-perform-3 Inv-loop μ-loop
+add-perform-3 c = search needs
+
+mul-perform-4 : tie.Need-mul-perform-4 Inv-loop μ-loop
+mul-perform-4 c = search needs
+
+shared-slice-read-perform-4 : tie.Need-shared-slice-read-perform-4 Inv-loop μ-loop
+shared-slice-read-perform-4 c = search needs
+
+perform-requires : tie.Need-perform-requires Inv-loop μ-loop
+perform-requires c κs = c .before .before .before .before .before .before .before .before .before .loop .inv .1 .begun
+
+mul-numbers : tie.Need-mul-numbers Inv-loop μ-loop
+mul-numbers c =
+    let l = c .before .before .before .before .before .before .before .before .before .before .before .before .before .before .before .before .before .before in
+    let s = start (l .before) in
+    omega (arith, c .before .before .before .before .before .before .before .before .before .before .before .before .before .before .before .before .before .loop-test .taken, s .pre .1, s .good)
+
+slice-write-numbers : tie.Need-slice-write-numbers Inv-loop μ-loop
+slice-write-numbers c =
+    let l = c .before .before .before .before .before .before .before .before .before .before .before .before .before .before .before .before .before .before in
+    let s = start (l .before) in
+    omega (arith, c .before .before .before .before .before .before .before .before .before .before .before .before .before .before .before .before .before .loop-test .taken, s .pre .1, s .good, l .loop .inv .1 .long)
+
+mul-values : tie.Need-mul-values Inv-loop μ-loop
+mul-values c =
+    let l = c .before .before .before .before .before .before .before .before .before .before .before .before .before .before .before .before .before .before in
+    let s = start (l .before) in
+    omega (arith, c .before .before .before .before .before .before .before .before .before .before .before .before .before .before .before .before .before .loop-test .taken, s .pre .1, s .good)
+
+slice-write-values : tie.Need-slice-write-values Inv-loop μ-loop
+slice-write-values c =
+    let l = c .before .before .before .before .before .before .before .before .before .before .before .before .before .before .before .before .before .before in
+    let s = start (l .before) in
+    omega (arith, c .before .before .before .before .before .before .before .before .before .before .before .before .before .before .before .before .before .loop-test .taken, s .pre .1, s .good, l .loop .inv .1 .wide)
+
+add-k : tie.Need-add-k Inv-loop μ-loop
+add-k c =
+    let l = c .before .before .before .before .before .before .before .before .before .before .before .before .before .before .before .before .before .before .before in
+    let s = start (l .before) in
+    omega (arith, c .before .before .before .before .before .before .before .before .before .before .before .before .before .before .before .before .before .before .loop-test .taken, s .pre .1, s .good)
+
+loop-less : tie.Need-loop-less Inv-loop μ-loop
+loop-less c = omega (arith, c .before .before .before .before .before .before .before .before .before .before .before .before .before .before .before .before .before .before .loop-test .taken)
+
+loop-again : tie.Need-loop-again Inv-loop μ-loop
+loop-again c =
+    let performed = c .before .before .before .before .before .before .before .before .before in
+    let at = performed .before .before .before .before .before .before .before .before .before .before in
+    (omega (arith, performed .before .before .before .before .before .before .before .before .before .loop-test .taken), turn-next _ (at .loop .inv .1) (performed .perform .ensures))
+
+same-length : tie.Need-same-length Inv-loop μ-loop
+same-length c = c .before .loop .inv .1 .shape .marks
+
+same-length-2 : tie.Need-same-length-2 Inv-loop μ-loop
+same-length-2 c = c .before .loop .inv .1 .shape .rights
+
+same-length-3 : tie.Need-same-length-3 Inv-loop μ-loop
+same-length-3 c = c .before .loop .inv .1 .shape .grants
+
+same-length-4 : tie.Need-same-length-4 Inv-loop μ-loop
+same-length-4 c = c .before .loop .inv .1 .shape .bytes
+
+same-length-5 : tie.Need-same-length-5 Inv-loop μ-loop
+same-length-5 c = c .before .loop .inv .1 .long
+
+same-length-6 : tie.Need-same-length-6 Inv-loop μ-loop
+same-length-6 c = c .before .loop .inv .1 .wide
+
+returns : tie.Need-returns Inv-loop μ-loop
+returns c =
+    let at = c .before .loop in
+    let s = start (c .before .before) in
+    let e : at .k ≡ s .args .count = omega (arith, c .loop-test .left, at .inv .0) in (
+      at .inv .1 .at ∙ ap (afterFirst (st s) (s .args .instructions .now)) e,
+      (
+        at .inv .1 .numbered ∙ ap (λ (j : ℕ). numbersIn (st s) (s .args .instructions .now) j (s .args .numbers .now)) e,
+        at .inv .1 .valued ∙ ap (λ (j : ℕ). valuesIn (st s) (s .args .instructions .now) j (s .args .values .now)) e,
+      ),
+    )
+
+pub run-list-spec : {M : Type 1} → statement M
+run-list-spec =
+    tie.close
+    (tie.spec
+    Inv-loop
+    μ-loop
+    loop-holds
+    mul-at
+    mul-perform
+    shared-slice-read-perform
+    add-perform
+    mul-perform-2
+    shared-slice-read-perform-2
+    add-perform-2
+    mul-perform-3
+    shared-slice-read-perform-3
+    add-perform-3
+    mul-perform-4
+    shared-slice-read-perform-4
+    perform-requires
+    mul-numbers
+    slice-write-numbers
+    mul-values
+    slice-write-values
+    add-k
+    loop-less
+    loop-again
+    same-length
+    same-length-2
+    same-length-3
+    same-length-4
+    same-length-5
+    same-length-6
+    returns)

@@ -1,0 +1,26 @@
+use native.Mathlib.Omega.{arith}
+use borrow.Author.Needs.{needs}
+use Rattle.monitor.proofs.look.entry_word.Statement.{statement}
+use Rattle.monitor.proofs.look.entry_word.Tie as tie
+use Rattle.monitor.proofs.look.entry_word.Reads as reads
+use Rattle.monitor.proofs.look.entry_word.Lts as lts
+use Rattle.monitor.proofs.look.place_of.Reads as place-of-reads
+use Rattle.monitor.proofs.look.word_in.Reads as word-in-reads
+
+place-of-requires : tie.Need-place-of-requires
+place-of-requires c κs = search needs
+
+word-in-requires : tie.Need-word-in-requires
+word-in-requires c κs =
+    let start = c .before .before .before .before .before in
+    omega (arith, c .place-of .ensures, start .pre .1 (c .before .if1 .taken))
+
+returns : tie.Need-returns
+returns c =
+    rw (c .before .before .if1 .taken, c .word-in .ensures, c .before .place-of .ensures)
+
+returns-2 : tie.Need-returns-2
+returns-2 c = rw (c .if1 .left)
+
+pub entry-word-spec : {M : Type 1} → statement M
+entry-word-spec = tie.close (tie.spec place-of-requires word-in-requires returns returns-2)

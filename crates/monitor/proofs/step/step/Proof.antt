@@ -1,0 +1,140 @@
+-- The cell is found, the instruction judged on it and applied: each return is one law of `Stepping`.
+use borrow.Author.Needs.{needs}
+use mathlib.Core.Path.{_≡_, sym, _∙_}
+use denote.Ref.{now}
+use Rattle.rules.specs.Numbers.{State, tables, state}
+use Rattle.rules.specs.Instructions.{addressOf}
+use Rattle.monitor.proofs.Readiness.{cells-rise}
+use Rattle.monitor.proofs.Searching.{FoundAt}
+use Rattle.monitor.proofs.Stepping.{found-for, found-nothing, stepped-nowhere, stepped-refused, stepped-applied, needs-hold}
+use Rattle.monitor.proofs.step.step.Statement.{statement}
+use Rattle.monitor.proofs.step.step.Tie as tie
+
+abbrev start : tie.After-slice-known4 → tie.Start
+start c = c .before .before .before .before .before .before .before
+
+abbrev st : tie.Start → State
+st c =
+    state
+    (tables (c .args .m) (now (c .args .first)) (now (c .args .last)) (now (c .args .offset)) (now (c .args .marks))
+    (now (c .args .rights)) (now (c .args .grants)) (now (c .args .memory)))
+    (c .args .registers)
+
+-- the entry, from where the cell is found, and from where it is judged
+abbrev from-found : tie.After-f → tie.Start
+from-found c = start (c .before .before .before .before)
+
+abbrev from-judged : tie.After-judge → tie.After-f
+from-judged c = c .before .before .before .before .before .before
+
+found : (c : tie.After-f) → FoundAt (st (from-found c) .lent) (addressOf (from-found c .args .i)) (c .f .given .0 .0)
+found c =
+    let searched = c .before .before in
+    found-for (st (from-found c) .lent) (from-found c .args .i) _ _ (searched .before .address-of .ensures) (searched .find .ensures)
+    (c .f .given .1)
+
+address-of-requires : tie.Need-address-of-requires
+address-of-requires c κs = search needs
+
+find-requires : tie.Need-find-requires
+find-requires c κs =
+    let s = start (c .before) in
+    cells-rise (st s .lent) (s .pre .0 .sizes) (s .pre .0 .sound)
+
+enum-told : tie.Need-enum-told
+enum-told c = search needs
+
+refuse-requires : tie.Need-refuse-requires
+refuse-requires c κs = search needs
+
+enum-known-f : tie.Need-enum-known-f
+enum-known-f c = search needs
+
+judge-requires : tie.Need-judge-requires
+judge-requires c κs =
+    let here = c .before .before .before .before .before in
+    let s = from-found here in
+    record { begun = s .pre .0; range = s .pre .1; cell = found here .cell }
+
+apply-requires : tie.Need-apply-requires
+apply-requires c κs =
+    let judged = c .before .before .before .before .before in
+    let here = from-judged judged in
+    let s = from-found here in (
+      record { begun = s .pre .0; range = s .pre .1; cell = found here .cell },
+      needs-hold (st s) (s .args .i) _ _ (found here) (judged .judge .ensures) (c .before .before .before .before .if1 .taken),
+    )
+
+refuse-requires-2 : tie.Need-refuse-requires-2
+refuse-requires-2 c κs = search needs
+
+returns : tie.Need-returns
+returns c =
+    let searched = c .before .before .before in
+    let s = start (searched .before .before) in
+    rw (c .refuse .ensures) (stepped-nowhere (st s) (s .args .i)
+    (found-nothing (st s .lent) (s .args .i) _ (searched .before .address-of .ensures) (searched .find .ensures) (c .before .enum-told .given .1)))
+
+same-length : tie.Need-same-length
+same-length c = search needs
+
+same-length-2 : tie.Need-same-length-2
+same-length-2 c = search needs
+
+same-length-3 : tie.Need-same-length-3
+same-length-3 c = search needs
+
+same-length-4 : tie.Need-same-length-4
+same-length-4 c = search needs
+
+returns-2 : tie.Need-returns-2
+returns-2 c =
+    let applied = c .before .before .before .before .before .before .before .before in
+    let judged = applied .before .before .before .before .before .before in
+    let here = from-judged judged in
+    let s = from-found here in
+    applied .apply .ensures
+    ∙ stepped-applied (st s) (s .args .i) _ _ (found here) (judged .judge .ensures) (applied .before .before .before .before .before .if1 .taken)
+
+same-length-5 : tie.Need-same-length-5
+same-length-5 c = search needs
+
+same-length-6 : tie.Need-same-length-6
+same-length-6 c = search needs
+
+same-length-7 : tie.Need-same-length-7
+same-length-7 c = search needs
+
+same-length-8 : tie.Need-same-length-8
+same-length-8 c = search needs
+
+returns-3 : tie.Need-returns-3
+returns-3 c =
+    let here = from-judged (c .before .before) in
+    let s = from-found here in
+    rw (c .refuse2 .ensures)
+    (stepped-refused (st s) (s .args .i) _ _ (found here) (c .before .before .judge .ensures) (c .before .if1 .left))
+
+pub step-spec : {M : Type 1} → statement M
+step-spec =
+    tie.close
+    (tie.spec
+    address-of-requires
+    find-requires
+    enum-told
+    refuse-requires
+    enum-known-f
+    judge-requires
+    apply-requires
+    refuse-requires-2
+    returns
+    same-length
+    same-length-2
+    same-length-3
+    same-length-4
+    returns-2
+    same-length-5
+    same-length-6
+    same-length-7
+    same-length-8
+    returns-3)

@@ -1,0 +1,39 @@
+-- What the monitor's searches answer, in the rules' words.
+use Prim.Native.Nat.{ℕ, suc, _≤_, _<_}
+use mathlib.Core.Path.{_≡_}
+use mathlib.Core.List.{List}
+use mathlib.Core.Bool.{cond}
+use lib.ListN.{length, getD}
+use lib.Dec.{ltb, eqb}
+use Rattle.rules.specs.Numbers.{State}
+use Rattle.rules.specs.Refusals.{firstFailing}
+use Rattle.rules.specs.Calls.{blockChecks}
+use Rattle.rules.specs.Instructions.{coveringCell, cellAt, place, otherHolder}
+use Rattle.monitor.specs.declared.block.Located.{Located}
+use Rattle.monitor.specs.declared.block.Located.the-variants.{At as LocatedAt, Refused}
+use Rattle.monitor.specs.declared.find.Found.{Found}
+use Rattle.monitor.specs.declared.find.Found.the-variants.{At, Nowhere}
+use Rattle.monitor.specs.declared.look.Holder.{Holder}
+use Rattle.monitor.specs.declared.look.Holder.the-variants.{Division, Nobody}
+
+-- as many lasts as firsts, and each cell above the cell before it: what soundness says of the addresses
+pub record CellsRise (first last : List ℕ) : Type 0 where
+  pub lasts : length last ≡ length first
+  pub rising : (c : ℕ) → c < length first → getD first c 0 ≤ getD last c 0
+  pub apart : (c : ℕ) → suc c < length first → getD last c 0 < getD first (suc c) 0
+
+-- the covering cell, or nowhere
+unfoldable pub foundIn : (first last : List ℕ) (x : ℕ) → Found
+foundIn first last x =
+    cond (ltb (coveringCell first last x) (length first)) (At (coveringCell first last x)) Nowhere
+
+-- the lowest other holder, or nobody
+unfoldable pub otherIn : (m : ℕ) (rights : List ℕ) (c d : ℕ) → Holder
+otherIn m rights c d = cond (ltb (otherHolder m rights c d) m) (Division (otherHolder m rights c d)) Nobody
+
+-- the place of a block of n bytes at x, or its refusal
+unfoldable pub locatedIn : (right : ℕ) → State → (x n : ℕ) → Located
+locatedIn right s x n =
+    cond (eqb (firstFailing (blockChecks right s x n)) 0)
+    (LocatedAt (place (s .lent) (cellAt (s .lent) x) x))
+    (Refused (firstFailing (blockChecks right s x n)))

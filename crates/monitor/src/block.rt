@@ -1,0 +1,73 @@
+// Blocks of bytes: where one lies, and how it is filled.
+ghost use mathlib.Core.Path.{_≡_};
+ghost use Prim.Native.Nat.{_≤_};
+ghost use lib.ListN.{length};
+ghost use Rattle.rules.specs.Numbers.{tables, state};
+ghost use Rattle.rules.specs.Blocks.{withinCell};
+ghost use Rattle.rules.proofs.Kept.{Begun};
+ghost use Rattle.monitor.specs.Leaves.{locatedIn};
+use crate::find::Found;
+use crate::find::find;
+use crate::judge::judge_whole;
+use crate::look::held_at;
+use crate::look::place_of;
+use rules::Registers;
+
+// Where a block begins in memory, or the number of the first check to fail.
+pub enum Located {
+    At(usize),
+    Refused(u32),
+}
+
+// Whether `n` bytes from `x` on do not run past `last`. The difference cannot wrap, as a sum could.
+pub fn within_cell(last: u32, x: u32, n: usize) -> bool
+    requires { ⌜ x ≤ last ⌝ }
+    ensures { λ r. ⌜ r ≡ withinCell last x n ⌝ }
+{
+    n <= (last - x) as usize + 1
+}
+
+// Checks 6 to 9 on a block of `n` bytes at `x`, with the right `needed`; its place where they hold.
+pub fn locate(
+    needed: u8,
+    m: usize,
+    first: &[u32],
+    last: &[u32],
+    offset: &[u32],
+    marks: &[u8],
+    rights: &[u8],
+    grants: &[u16],
+    memory: &[u8],
+    registers: Registers,
+    x: u32,
+    n: usize,
+) -> Located
+    requires { ⌜ Begun (state (tables m (now first) (now last) (now offset) (now marks) (now rights) (now grants) (now memory)) registers) ⌝ }
+    ensures { λ r. ⌜ r ≡ locatedIn needed (state (tables m (now (first .entry)) (now (last .entry)) (now (offset .entry)) (now (marks .entry)) (now (rights .entry)) (now (grants .entry)) (now (memory .entry))) registers) x n ⌝ }
+{
+    let f = find(first, last, x);
+    match f {
+        Found::Nowhere => Located::Refused(rules::NOT_COVERED),
+        Found::At(c) => {
+            let held = held_at(m, rights, c, registers.current as usize);
+            let k = judge_whole(marks[c] == 1, within_cell(last[c], x, n), needed, held);
+            if k == 0 {
+                Located::At(place_of(first, offset, c, x))
+            } else {
+                Located::Refused(k)
+            }
+        }
+    }
+}
+
+// Fills a part of the memory with as many bytes.
+pub fn copy_into(part: &mut [u8], bytes: &[u8])
+    requires { ⌜ length (now bytes) ≡ length (now part) ⌝ }
+    ensures { λ _. ⌜ now (part .exit) ≡ now (bytes .entry) ⌝ }
+{
+    let mut i = 0;
+    while i < bytes.len() {
+        part[i] = bytes[i];
+        i += 1;
+    }
+}

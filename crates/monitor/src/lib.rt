@@ -1,0 +1,430 @@
+// The monitor's calls. Each tests everything that it is lent, and none has a `requires`. A refusal gives the number of
+// the first failing check and changes nothing.
+mod apply;
+mod back;
+mod block;
+mod find;
+mod judge;
+mod list;
+mod look;
+mod step;
+
+ghost use mathlib.Core.Path.{_≡_};
+ghost use mathlib.Core.Bool.{_&&_};
+ghost use lib.Dec.{ltb};
+ghost use lib.ListN.{length};
+ghost use Rattle.monitor.specs.Runs.{roomFor, afterFirst, numbersIn, valuesIn};
+ghost use Rattle.rules.specs.Numbers.{tables, state};
+ghost use Rattle.rules.specs.Calls.{instruction, blockWrite, readView, performed};
+ghost use Rattle.monitor.specs.Ready.{firstAnswer, answerIn, viewPlaceIn, came};
+use back::accept;
+use back::refuse;
+use block::Located;
+use block::copy_into;
+use block::locate;
+use list::fill;
+use list::room_for;
+use list::run_list;
+use rules::Answer;
+use rules::Registers;
+use step::perform;
+
+// What a call answers: a number of the refusal list, 0 for acceptance, the value that goes with it, and the registers.
+#[repr(C)]
+pub struct Reply {
+    pub number: u32,
+    pub value: u32,
+    pub registers: Registers,
+}
+
+// Where a read view's part begins in the memory, and how many bytes it has; both 0 on a refusal.
+#[repr(C)]
+pub struct ViewPlace {
+    pub number: u32,
+    pub value: u32,
+    pub start: usize,
+    pub count: usize,
+}
+
+// Whether current and caller are divisions.
+fn known(m: usize, registers: Registers) -> bool
+    ensures { λ r. ⌜ r ≡ (ltb (registers .current) m && ltb (registers .caller) m) ⌝ }
+{
+    ((registers.current as usize) < m) & ((registers.caller as usize) < m)
+}
+
+// Checks 1, 2 and 3, with which every call begins.
+fn begin(
+    m: usize,
+    first: &[u32],
+    last: &[u32],
+    offset: &[u32],
+    marks: &[u8],
+    rights: &[u8],
+    grants: &[u16],
+    memory: &[u8],
+    registers: Registers,
+) -> Answer
+    ensures { λ r. ⌜ r ≡ firstAnswer (state (tables m (now (first .entry)) (now (last .entry)) (now (offset .entry)) (now (marks .entry)) (now (rights .entry)) (now (grants .entry)) (now (memory .entry))) registers) ⌝ }
+{
+    let checked = tables::check(m, first, last, offset, marks, rights, grants, memory);
+    let n = checked.number;
+    if n == 0 {
+        if known(m, registers) {
+            Answer {
+                number: 0,
+                value: 0,
+            }
+        } else {
+            Answer {
+                number: rules::NO_SUCH_DIVISION,
+                value: 0,
+            }
+        }
+    } else {
+        checked
+    }
+}
+
+// One instruction, given as four numbers.
+pub fn execute(
+    m: usize,
+    first: &[u32],
+    last: &[u32],
+    offset: &[u32],
+    marks: &mut [u8],
+    rights: &mut [u8],
+    grants: &mut [u16],
+    memory: &mut [u8],
+    registers: Registers,
+    number: u32,
+    x: u32,
+    y: u32,
+    z: u32,
+) -> Reply
+    ensures { λ r. ⌜ came r (tables m (now (first .entry)) (now (last .entry)) (now (offset .entry)) (now (marks .exit)) (now (rights .exit)) (now (grants .exit)) (now (memory .exit))) ≡ performed (state (tables m (now (first .entry)) (now (last .entry)) (now (offset .entry)) (now (marks .entry)) (now (rights .entry)) (now (grants .entry)) (now (memory .entry))) registers) (instruction number x y z) ⌝ }
+{
+    let begun = begin(
+        m,
+        first,
+        last,
+        offset,
+        marks,
+        rights,
+        grants,
+        memory,
+        registers,
+    );
+    let n = begun.number;
+    if n == 0 {
+        perform(
+            m,
+            first,
+            last,
+            offset,
+            marks,
+            rights,
+            grants,
+            memory,
+            registers,
+            number,
+            x,
+            y,
+            z,
+        )
+    } else {
+        refuse(n, begun.value, registers)
+    }
+}
+
+// Instructions in turn, four numbers each, with their answers in two lent lists: as many as are whole and have room for
+// both answers. The tables are checked once; where check 1, 2 or 3 fails, every instruction is answered with it.
+pub fn execute_all(
+    m: usize,
+    first: &[u32],
+    last: &[u32],
+    offset: &[u32],
+    marks: &mut [u8],
+    rights: &mut [u8],
+    grants: &mut [u16],
+    memory: &mut [u8],
+    registers: Registers,
+    instructions: &[u32],
+    numbers: &mut [u32],
+    values: &mut [u32],
+) -> Registers
+    ensures { λ r. ⌜ state (tables m (now (first .entry)) (now (last .entry)) (now (offset .entry)) (now (marks .exit)) (now (rights .exit)) (now (grants .exit)) (now (memory .exit))) r ≡ afterFirst (state (tables m (now (first .entry)) (now (last .entry)) (now (offset .entry)) (now (marks .entry)) (now (rights .entry)) (now (grants .entry)) (now (memory .entry))) registers) (now (instructions .entry)) (roomFor (length (now (instructions .entry))) (length (now (numbers .entry))) (length (now (values .entry)))) ⌝ }
+    ensures { λ r. ⌜ now (numbers .exit) ≡ numbersIn (state (tables m (now (first .entry)) (now (last .entry)) (now (offset .entry)) (now (marks .entry)) (now (rights .entry)) (now (grants .entry)) (now (memory .entry))) registers) (now (instructions .entry)) (roomFor (length (now (instructions .entry))) (length (now (numbers .entry))) (length (now (values .entry)))) (now (numbers .entry)) ⌝ }
+    ensures { λ r. ⌜ now (values .exit) ≡ valuesIn (state (tables m (now (first .entry)) (now (last .entry)) (now (offset .entry)) (now (marks .entry)) (now (rights .entry)) (now (grants .entry)) (now (memory .entry))) registers) (now (instructions .entry)) (roomFor (length (now (instructions .entry))) (length (now (numbers .entry))) (length (now (values .entry)))) (now (values .entry)) ⌝ }
+{
+    let count = room_for(instructions.len(), numbers.len(), values.len());
+    let begun = begin(
+        m,
+        first,
+        last,
+        offset,
+        marks,
+        rights,
+        grants,
+        memory,
+        registers,
+    );
+    let n = begun.number;
+    if n == 0 {
+        run_list(
+            m,
+            first,
+            last,
+            offset,
+            marks,
+            rights,
+            grants,
+            memory,
+            registers,
+            instructions,
+            count,
+            numbers,
+            values,
+        )
+    } else {
+        fill(numbers, count, n);
+        fill(values, count, begun.value);
+        registers
+    }
+}
+
+// The bytes of the memory from the place of `x` on become `bytes`; every other byte stays.
+pub fn write_block(
+    m: usize,
+    first: &[u32],
+    last: &[u32],
+    offset: &[u32],
+    marks: &[u8],
+    rights: &[u8],
+    grants: &[u16],
+    memory: &mut [u8],
+    registers: Registers,
+    x: u32,
+    bytes: &[u8],
+) -> Reply
+    ensures { λ r. ⌜ came r (tables m (now (first .entry)) (now (last .entry)) (now (offset .entry)) (now (marks .entry)) (now (rights .entry)) (now (grants .entry)) (now (memory .exit))) ≡ performed (state (tables m (now (first .entry)) (now (last .entry)) (now (offset .entry)) (now (marks .entry)) (now (rights .entry)) (now (grants .entry)) (now (memory .entry))) registers) (blockWrite x (now (bytes .entry))) ⌝ }
+{
+    let begun = begin(
+        m,
+        first,
+        last,
+        offset,
+        marks,
+        rights,
+        grants,
+        memory,
+        registers,
+    );
+    let n = begun.number;
+    if n == 0 {
+        let located = locate(
+            rules::WRITE,
+            m,
+            first,
+            last,
+            offset,
+            marks,
+            rights,
+            grants,
+            memory,
+            registers,
+            x,
+            bytes.len(),
+        );
+        match located {
+            Located::Refused(k) => refuse(k, 0, registers),
+            Located::At(place) => {
+                let end = place + bytes.len();
+                copy_into(&mut memory[place..end], bytes);
+                accept(0, registers)
+            }
+        }
+    } else {
+        refuse(n, begun.value, registers)
+    }
+}
+
+// The part of the lent memory itself that holds the `n` bytes from `x` on; an empty part on a refusal.
+pub fn view<'a>(
+    m: usize,
+    first: &[u32],
+    last: &[u32],
+    offset: &[u32],
+    marks: &[u8],
+    rights: &[u8],
+    grants: &[u16],
+    memory: &'a [u8],
+    registers: Registers,
+    x: u32,
+    n: usize,
+) -> &'a [u8]
+    ensures { λ r. ⌜ now r ≡ performed (state (tables m (now (first .entry)) (now (last .entry)) (now (offset .entry)) (now (marks .entry)) (now (rights .entry)) (now (grants .entry)) (now (memory .entry))) registers) (readView x n) .part ⌝ }
+{
+    let begun = begin(
+        m,
+        first,
+        last,
+        offset,
+        marks,
+        rights,
+        grants,
+        memory,
+        registers,
+    );
+    let k = begun.number;
+    if k == 0 {
+        let located = locate(
+            rules::READ,
+            m,
+            first,
+            last,
+            offset,
+            marks,
+            rights,
+            grants,
+            memory,
+            registers,
+            x,
+            n,
+        );
+        match located {
+            Located::Refused(_) => &memory[0..0],
+            Located::At(place) => {
+                let end = place + n;
+                &memory[place..end]
+            }
+        }
+    } else {
+        &memory[0..0]
+    }
+}
+
+// The number and the value of a read view of the same values.
+pub fn view_answer(
+    m: usize,
+    first: &[u32],
+    last: &[u32],
+    offset: &[u32],
+    marks: &[u8],
+    rights: &[u8],
+    grants: &[u16],
+    memory: &[u8],
+    registers: Registers,
+    x: u32,
+    n: usize,
+) -> Answer
+    ensures { λ r. ⌜ r ≡ answerIn (performed (state (tables m (now (first .entry)) (now (last .entry)) (now (offset .entry)) (now (marks .entry)) (now (rights .entry)) (now (grants .entry)) (now (memory .entry))) registers) (readView x n)) ⌝ }
+{
+    let begun = begin(
+        m,
+        first,
+        last,
+        offset,
+        marks,
+        rights,
+        grants,
+        memory,
+        registers,
+    );
+    let k = begun.number;
+    if k == 0 {
+        let located = locate(
+            rules::READ,
+            m,
+            first,
+            last,
+            offset,
+            marks,
+            rights,
+            grants,
+            memory,
+            registers,
+            x,
+            n,
+        );
+        match located {
+            Located::Refused(k) => Answer {
+                number: k,
+                value: 0,
+            },
+            Located::At(_) => Answer {
+                number: 0,
+                value: 0,
+            },
+        }
+    } else {
+        begun
+    }
+}
+
+// The same, with the place of the part in the memory, for callers that cannot be handed a reference.
+pub fn view_place(
+    m: usize,
+    first: &[u32],
+    last: &[u32],
+    offset: &[u32],
+    marks: &[u8],
+    rights: &[u8],
+    grants: &[u16],
+    memory: &[u8],
+    registers: Registers,
+    x: u32,
+    n: usize,
+) -> ViewPlace
+    ensures { λ r. ⌜ r ≡ viewPlaceIn (state (tables m (now (first .entry)) (now (last .entry)) (now (offset .entry)) (now (marks .entry)) (now (rights .entry)) (now (grants .entry)) (now (memory .entry))) registers) x n ⌝ }
+{
+    let begun = begin(
+        m,
+        first,
+        last,
+        offset,
+        marks,
+        rights,
+        grants,
+        memory,
+        registers,
+    );
+    let k = begun.number;
+    if k == 0 {
+        let located = locate(
+            rules::READ,
+            m,
+            first,
+            last,
+            offset,
+            marks,
+            rights,
+            grants,
+            memory,
+            registers,
+            x,
+            n,
+        );
+        match located {
+            Located::Refused(k) => ViewPlace {
+                number: k,
+                value: 0,
+                start: 0,
+                count: 0,
+            },
+            Located::At(place) => ViewPlace {
+                number: 0,
+                value: 0,
+                start: place,
+                count: n,
+            },
+        }
+    } else {
+        ViewPlace {
+            number: k,
+            value: begun.value,
+            start: 0,
+            count: 0,
+        }
+    }
+}

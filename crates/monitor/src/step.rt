@@ -1,0 +1,132 @@
+// One well-formed instruction: the cell that covers its address is found, its checks are made, and then it is done.
+ghost use mathlib.Core.Path.{_≡_};
+ghost use Rattle.rules.specs.Numbers.{tables, state};
+ghost use Rattle.rules.specs.Refusals.{answered};
+ghost use Rattle.rules.specs.Instructions.{addressOf};
+ghost use Rattle.rules.specs.Calls.{kindChecks, kindDone, instruction, performed};
+ghost use Rattle.rules.proofs.Decoding.{InRange};
+ghost use Rattle.rules.proofs.Kept.{Begun};
+ghost use Rattle.monitor.specs.Ready.{came};
+use crate::Reply;
+use crate::apply::apply;
+use crate::back::refuse;
+use crate::find::Found;
+use crate::find::find;
+use crate::judge::judge;
+use rules::Decoded;
+use rules::Instruction;
+use rules::Registers;
+
+// An instruction's address.
+fn address_of(i: Instruction) -> u32
+    ensures { λ r. ⌜ r ≡ addressOf i ⌝ }
+{
+    match i {
+        Instruction::Load(x) => x,
+        Instruction::Store(x, _) => x,
+        Instruction::Fetch(x) => x,
+        Instruction::Switch(x, _) => x,
+        Instruction::Protect(x, _) => x,
+        Instruction::Grant(x, _, _) => x,
+        Instruction::Receive(x, _) => x,
+        Instruction::Transfer(x, _, _) => x,
+        Instruction::Invalidate(x) => x,
+        Instruction::Revalidate(x) => x,
+        Instruction::Exclusive(x) => x,
+    }
+}
+
+// What a well-formed instruction answers and does, on tables and registers that checks 1, 2 and 3 let through.
+pub fn step(
+    m: usize,
+    first: &[u32],
+    last: &[u32],
+    offset: &[u32],
+    marks: &mut [u8],
+    rights: &mut [u8],
+    grants: &mut [u16],
+    memory: &mut [u8],
+    registers: Registers,
+    i: Instruction,
+) -> Reply
+    requires { ⌜ Begun (state (tables m (now first) (now last) (now offset) (now marks) (now rights) (now grants) (now memory)) registers) ⌝ }
+    requires { ⌜ InRange m (registers .current) i ⌝ }
+    ensures { λ r. ⌜ came r (tables m (now (first .entry)) (now (last .entry)) (now (offset .entry)) (now (marks .exit)) (now (rights .exit)) (now (grants .exit)) (now (memory .exit))) ≡ answered (state (tables m (now (first .entry)) (now (last .entry)) (now (offset .entry)) (now (marks .entry)) (now (rights .entry)) (now (grants .entry)) (now (memory .entry))) registers) (kindChecks (state (tables m (now (first .entry)) (now (last .entry)) (now (offset .entry)) (now (marks .entry)) (now (rights .entry)) (now (grants .entry)) (now (memory .entry))) registers) i) (kindDone (state (tables m (now (first .entry)) (now (last .entry)) (now (offset .entry)) (now (marks .entry)) (now (rights .entry)) (now (grants .entry)) (now (memory .entry))) registers) i) ⌝ }
+{
+    let f = find(first, last, address_of(i));
+    match f {
+        Found::Nowhere => refuse(rules::NOT_COVERED, 0, registers),
+        Found::At(c) => {
+            let n = judge(
+                m,
+                first,
+                last,
+                offset,
+                marks,
+                rights,
+                grants,
+                memory,
+                registers,
+                c,
+                i,
+            );
+            if n == 0 {
+                apply(
+                    m,
+                    first,
+                    last,
+                    offset,
+                    marks,
+                    rights,
+                    grants,
+                    memory,
+                    registers,
+                    c,
+                    i,
+                )
+            } else {
+                refuse(n, 0, registers)
+            }
+        }
+    }
+}
+
+// What four numbers answer and do, on tables and registers that checks 1, 2 and 3 let through.
+pub fn perform(
+    m: usize,
+    first: &[u32],
+    last: &[u32],
+    offset: &[u32],
+    marks: &mut [u8],
+    rights: &mut [u8],
+    grants: &mut [u16],
+    memory: &mut [u8],
+    registers: Registers,
+    number: u32,
+    x: u32,
+    y: u32,
+    z: u32,
+) -> Reply
+    requires { ⌜ Begun (state (tables m (now first) (now last) (now offset) (now marks) (now rights) (now grants) (now memory)) registers) ⌝ }
+    ensures { λ r. ⌜ came r (tables m (now (first .entry)) (now (last .entry)) (now (offset .entry)) (now (marks .exit)) (now (rights .exit)) (now (grants .exit)) (now (memory .exit))) ≡ performed (state (tables m (now (first .entry)) (now (last .entry)) (now (offset .entry)) (now (marks .entry)) (now (rights .entry)) (now (grants .entry)) (now (memory .entry))) registers) (instruction number x y z) ⌝ }
+{
+    let decoded = rules::decode(m as u32, registers.current, 1, number, x, y, z);
+    match decoded {
+        Decoded::Refused(k) => refuse(k, 0, registers),
+        Decoded::Kind(placed) => {
+            let i = placed.instruction;
+            step(
+                m,
+                first,
+                last,
+                offset,
+                marks,
+                rights,
+                grants,
+                memory,
+                registers,
+                i,
+            )
+        }
+    }
+}
