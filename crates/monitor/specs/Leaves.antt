@@ -1,14 +1,15 @@
 -- What the monitor's searches answer, in the rules' words.
 use Prim.Native.Nat.{ℕ, suc, _≤_, _<_}
 use mathlib.Core.Path.{_≡_}
-use mathlib.Core.List.{List}
+use mathlib.Core.List.{List, _++_}
 use mathlib.Core.Bool.{cond}
 use lib.ListN.{length, getD}
 use lib.Dec.{ltb, eqb}
 use Rattle.rules.specs.Numbers.{State}
-use Rattle.rules.specs.Refusals.{firstFailing}
+use Rattle.rules.specs.Refusals.{Check, firstFailing, firstChecks}
 use Rattle.rules.specs.Calls.{blockChecks}
 use Rattle.rules.specs.Instructions.{coveringCell, cellAt, place, otherHolder}
+use Rattle.monitor.specs.Ready.{checksAnswer}
 use Rattle.monitor.specs.declared.block.Located.{Located}
 use Rattle.monitor.specs.declared.block.Located.the-variants.{At as LocatedAt, Refused}
 use Rattle.monitor.specs.declared.find.Found.{Found}
@@ -31,9 +32,19 @@ foundIn first last x =
 unfoldable pub otherIn : (m : ℕ) (rights : List ℕ) (c d : ℕ) → Holder
 otherIn m rights c d = cond (ltb (otherHolder m rights c d) m) (Division (otherHolder m rights c d)) Nobody
 
--- the place of a block of n bytes at x, or its refusal
-unfoldable pub locatedIn : (right : ℕ) → State → (x n : ℕ) → Located
-locatedIn right s x n =
-    cond (eqb (firstFailing (blockChecks right s x n)) 0)
-    (LocatedAt (place (s .lent) (cellAt (s .lent) x) x))
-    (Refused (firstFailing (blockChecks right s x n)))
+-- the place of a block at x where all the checks hold, or else their refusal
+unfoldable pub locatedBy : List Check → State → (x : ℕ) → Located
+locatedBy ks s x =
+    cond (eqb (firstFailing ks) 0) (LocatedAt (place (s .lent) (cellAt (s .lent) x) x)) (Refused (checksAnswer ks s))
+
+-- by the checks on a block of n bytes from 6 on
+abbrev pub locatedIn : (right : ℕ) → State → (x n : ℕ) → Located
+locatedIn right s x n = locatedBy (blockChecks right s x n) s x
+
+-- all checks on a block write or a read view
+abbrev pub callChecks : (right : ℕ) → State → (x n : ℕ) → List Check
+callChecks right s x n = firstChecks s ++ blockChecks right s x n
+
+-- by all of them
+abbrev pub placedIn : (right : ℕ) → State → (x n : ℕ) → Located
+placedIn right s x n = locatedBy (callChecks right s x n) s x

@@ -1,10 +1,10 @@
 -- What the public calls have tested, and what they hand back.
 use Prim.Native.Nat.{ℕ}
-use mathlib.Core.List.{[]}
+use mathlib.Core.List.{List, []}
 use mathlib.Core.Bool.{cond}
 use lib.Dec.{eqb}
 use Rattle.rules.specs.Numbers.{Tables, State, state}
-use Rattle.rules.specs.Refusals.{Outcome, firstFailing, firstChecks, refusedValue}
+use Rattle.rules.specs.Refusals.{Check, Outcome, firstFailing, firstChecks, refusedValue}
 use Rattle.rules.specs.declared.Answer.{Answer}
 use Rattle.rules.specs.Instructions.{addressOf, cellAt, place}
 use Rattle.rules.specs.Calls.{readView, performed}
@@ -24,13 +24,13 @@ pub record Ready (s : State) (i : Instruction) (c : ℕ) : Type 0 where
 abbrev pub came : Reply → Tables → Outcome
 came r t = record { number = r .number; value = r .value; part = []; after = state t (r .registers) }
 
+-- what checks answer: the number of the first to fail, and the value that goes with it
+abbrev pub checksAnswer : List Check → State → Answer
+checksAnswer ks s = record { number = firstFailing ks; value = refusedValue (s .lent) (firstFailing ks) }
+
 -- what checks 1, 2 and 3 answer
 unfoldable pub firstAnswer : State → Answer
-firstAnswer s =
-    record {
-      number = firstFailing (firstChecks s);
-      value = refusedValue (s .lent) (firstFailing (firstChecks s));
-    }
+firstAnswer s = checksAnswer (firstChecks s) s
 
 -- what a read view's separate call answers
 abbrev pub answerIn : Outcome → Answer

@@ -1,6 +1,5 @@
 // Blocks of bytes: where one lies, and how it is filled.
 ghost use mathlib.Core.Path.{_≡_};
-ghost use Prim.Native.Nat.{_≤_};
 ghost use lib.ListN.{length};
 ghost use Rattle.rules.specs.Numbers.{tables, state};
 ghost use Rattle.rules.specs.Blocks.{withinCell};
@@ -11,20 +10,26 @@ use crate::find::find;
 use crate::judge::judge_whole;
 use crate::look::held_at;
 use crate::look::place_of;
+use rules::Answer;
 use rules::Registers;
 
-// Where a block begins in memory, or the number of the first check to fail.
+// Where a block begins in memory, or the refusal of the first check to fail.
 pub enum Located {
     At(usize),
-    Refused(u32),
+    Refused(Answer),
 }
 
-// Whether `n` bytes from `x` on do not run past `last`. The difference cannot wrap, as a sum could.
+// Whether `n` bytes from `x` on do not run past `last`. The sum cannot wrap: it has 64 bits, and is made only for a block
+// of no more bytes than there are addresses.
 pub fn within_cell(last: u32, x: u32, n: usize) -> bool
-    requires { ⌜ x ≤ last ⌝ }
     ensures { λ r. ⌜ r ≡ withinCell last x n ⌝ }
 {
-    n <= (last - x) as usize + 1
+    if n <= 4294967296 {
+        let end = x as usize + n;
+        end <= last as usize + 1
+    } else {
+        false
+    }
 }
 
 // Checks 6 to 9 on a block of `n` bytes at `x`, with the right `needed`; its place where they hold.
@@ -47,14 +52,20 @@ pub fn locate(
 {
     let f = find(first, last, x);
     match f {
-        Found::Nowhere => Located::Refused(rules::NOT_COVERED),
+        Found::Nowhere => Located::Refused(Answer {
+            number: rules::NOT_COVERED,
+            value: 0,
+        }),
         Found::At(c) => {
             let held = held_at(m, rights, c, registers.current as usize);
             let k = judge_whole(marks[c] == 1, within_cell(last[c], x, n), needed, held);
             if k == 0 {
                 Located::At(place_of(first, offset, c, x))
             } else {
-                Located::Refused(k)
+                Located::Refused(Answer {
+                    number: k,
+                    value: 0,
+                })
             }
         }
     }

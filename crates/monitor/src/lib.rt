@@ -17,6 +17,7 @@ ghost use Rattle.monitor.specs.Runs.{roomFor, afterFirst, numbersIn, val
 ghost use Rattle.rules.specs.Numbers.{tables, state};
 ghost use Rattle.rules.specs.Calls.{instruction, blockWrite, readView, performed};
 ghost use Rattle.monitor.specs.Ready.{firstAnswer, answerIn, viewPlaceIn, came};
+ghost use Rattle.monitor.specs.Leaves.{placedIn};
 use back::accept;
 use back::refuse;
 use block::Located;
@@ -193,6 +194,55 @@ pub fn execute_all(
     }
 }
 
+// Checks 1, 2 and 3, and then those on a block of `n` bytes at `x`, with the right `needed`; its place where they hold.
+fn place_block(
+    needed: u8,
+    m: usize,
+    first: &[u32],
+    last: &[u32],
+    offset: &[u32],
+    marks: &[u8],
+    rights: &[u8],
+    grants: &[u16],
+    memory: &[u8],
+    registers: Registers,
+    x: u32,
+    n: usize,
+) -> Located
+    ensures { λ r. ⌜ r ≡ placedIn needed (state (tables m (now (first .entry)) (now (last .entry)) (now (offset .entry)) (now (marks .entry)) (now (rights .entry)) (now (grants .entry)) (now (memory .entry))) registers) x n ⌝ }
+{
+    let begun = begin(
+        m,
+        first,
+        last,
+        offset,
+        marks,
+        rights,
+        grants,
+        memory,
+        registers,
+    );
+    let k = begun.number;
+    if k == 0 {
+        locate(
+            needed,
+            m,
+            first,
+            last,
+            offset,
+            marks,
+            rights,
+            grants,
+            memory,
+            registers,
+            x,
+            n,
+        )
+    } else {
+        Located::Refused(begun)
+    }
+}
+
 // The bytes of the memory from the place of `x` on become `bytes`; every other byte stays.
 pub fn write_block(
     m: usize,
@@ -209,7 +259,8 @@ pub fn write_block(
 ) -> Reply
     ensures { λ r. ⌜ came r (tables m (now (first .entry)) (now (last .entry)) (now (offset .entry)) (now (marks .entry)) (now (rights .entry)) (now (grants .entry)) (now (memory .exit))) ≡ performed (state (tables m (now (first .entry)) (now (last .entry)) (now (offset .entry)) (now (marks .entry)) (now (rights .entry)) (now (grants .entry)) (now (memory .entry))) registers) (blockWrite x (now (bytes .entry))) ⌝ }
 {
-    let begun = begin(
+    let located = place_block(
+        rules::WRITE,
         m,
         first,
         last,
@@ -219,33 +270,16 @@ pub fn write_block(
         grants,
         memory,
         registers,
+        x,
+        bytes.len(),
     );
-    let n = begun.number;
-    if n == 0 {
-        let located = locate(
-            rules::WRITE,
-            m,
-            first,
-            last,
-            offset,
-            marks,
-            rights,
-            grants,
-            memory,
-            registers,
-            x,
-            bytes.len(),
-        );
-        match located {
-            Located::Refused(k) => refuse(k, 0, registers),
-            Located::At(place) => {
-                let end = place + bytes.len();
-                copy_into(&mut memory[place..end], bytes);
-                accept(0, registers)
-            }
+    match located {
+        Located::Refused(answer) => refuse(answer.number, answer.value, registers),
+        Located::At(place) => {
+            let end = place + bytes.len();
+            copy_into(&mut memory[place..end], bytes);
+            accept(0, registers)
         }
-    } else {
-        refuse(n, begun.value, registers)
     }
 }
 
@@ -265,7 +299,8 @@ pub fn view<'a>(
 ) -> &'a [u8]
     ensures { λ r. ⌜ now r ≡ performed (state (tables m (now (first .entry)) (now (last .entry)) (now (offset .entry)) (now (marks .entry)) (now (rights .entry)) (now (grants .entry)) (now (memory .entry))) registers) (readView x n) .part ⌝ }
 {
-    let begun = begin(
+    let located = place_block(
+        rules::READ,
         m,
         first,
         last,
@@ -275,32 +310,15 @@ pub fn view<'a>(
         grants,
         memory,
         registers,
+        x,
+        n,
     );
-    let k = begun.number;
-    if k == 0 {
-        let located = locate(
-            rules::READ,
-            m,
-            first,
-            last,
-            offset,
-            marks,
-            rights,
-            grants,
-            memory,
-            registers,
-            x,
-            n,
-        );
-        match located {
-            Located::Refused(_) => &memory[0..0],
-            Located::At(place) => {
-                let end = place + n;
-                &memory[place..end]
-            }
+    match located {
+        Located::Refused(_) => &memory[0..0],
+        Located::At(place) => {
+            let end = place + n;
+            &memory[place..end]
         }
-    } else {
-        &memory[0..0]
     }
 }
 
@@ -320,7 +338,8 @@ pub fn view_answer(
 ) -> Answer
     ensures { λ r. ⌜ r ≡ answerIn (performed (state (tables m (now (first .entry)) (now (last .entry)) (now (offset .entry)) (now (marks .entry)) (now (rights .entry)) (now (grants .entry)) (now (memory .entry))) registers) (readView x n)) ⌝ }
 {
-    let begun = begin(
+    let located = place_block(
+        rules::READ,
         m,
         first,
         last,
@@ -330,35 +349,15 @@ pub fn view_answer(
         grants,
         memory,
         registers,
+        x,
+        n,
     );
-    let k = begun.number;
-    if k == 0 {
-        let located = locate(
-            rules::READ,
-            m,
-            first,
-            last,
-            offset,
-            marks,
-            rights,
-            grants,
-            memory,
-            registers,
-            x,
-            n,
-        );
-        match located {
-            Located::Refused(k) => Answer {
-                number: k,
-                value: 0,
-            },
-            Located::At(_) => Answer {
-                number: 0,
-                value: 0,
-            },
-        }
-    } else {
-        begun
+    match located {
+        Located::Refused(answer) => answer,
+        Located::At(_) => Answer {
+            number: 0,
+            value: 0,
+        },
     }
 }
 
@@ -378,7 +377,8 @@ pub fn view_place(
 ) -> ViewPlace
     ensures { λ r. ⌜ r ≡ viewPlaceIn (state (tables m (now (first .entry)) (now (last .entry)) (now (offset .entry)) (now (marks .entry)) (now (rights .entry)) (now (grants .entry)) (now (memory .entry))) registers) x n ⌝ }
 {
-    let begun = begin(
+    let located = place_block(
+        rules::READ,
         m,
         first,
         last,
@@ -388,43 +388,21 @@ pub fn view_place(
         grants,
         memory,
         registers,
+        x,
+        n,
     );
-    let k = begun.number;
-    if k == 0 {
-        let located = locate(
-            rules::READ,
-            m,
-            first,
-            last,
-            offset,
-            marks,
-            rights,
-            grants,
-            memory,
-            registers,
-            x,
-            n,
-        );
-        match located {
-            Located::Refused(k) => ViewPlace {
-                number: k,
-                value: 0,
-                start: 0,
-                count: 0,
-            },
-            Located::At(place) => ViewPlace {
-                number: 0,
-                value: 0,
-                start: place,
-                count: n,
-            },
-        }
-    } else {
-        ViewPlace {
-            number: k,
-            value: begun.value,
+    match located {
+        Located::Refused(answer) => ViewPlace {
+            number: answer.number,
+            value: answer.value,
             start: 0,
             count: 0,
-        }
+        },
+        Located::At(place) => ViewPlace {
+            number: 0,
+            value: 0,
+            start: place,
+            count: n,
+        },
     }
 }

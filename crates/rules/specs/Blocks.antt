@@ -8,7 +8,7 @@ use Rattle.rules.specs.Numbers.{Tables, partOf, lastOf, markOf, held}
 use Rattle.rules.specs.Refusals.{notValid, notWhole, rightMissing, Check, _unless_}
 use Rattle.rules.specs.Instructions.{valid, place, withMemory}
 
--- n bytes from x on do not run past last; so it is of no bytes, since c covers x
+-- n bytes from x on do not run past last; this holds of no bytes, since c covers x
 unfoldable pub withinCell : (last x n : ℕ) → Bool
 withinCell last x n = leb (x + n) (last + 1)
 

@@ -72,7 +72,7 @@ shared-slice-read-within-cell : tie.Need-shared-slice-read-within-cell
 shared-slice-read-within-cell c = inside (c .before .before .before .before .before) .lasts
 
 within-cell-requires : tie.Need-within-cell-requires
-within-cell-requires c κs = found (c .before .before .before .before .before) .cell .to
+within-cell-requires c κs = search needs
 
 judge-whole-requires : tie.Need-judge-whole-requires
 judge-whole-requires c κs = search needs

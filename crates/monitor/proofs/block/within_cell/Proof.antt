@@ -1,19 +1,23 @@
+use mathlib.Core.Path.{refl}
+use native.Mathlib.Omega.{arith}
 use borrow.Author.Needs.{needs}
-use Rattle.monitor.proofs.Locating.{within-moved}
+use Rattle.rules.specs.Blocks.{withinCell}
+use Rattle.monitor.proofs.Locating.{beyond-cell}
 use Rattle.monitor.proofs.block.within_cell.Statement.{statement}
 use Rattle.monitor.proofs.block.within_cell.Tie as tie
 
-sub-result : tie.Need-sub-result
-sub-result c = search needs
-
-cast-result : tie.Need-cast-result
-cast-result c = search needs
+add-end : tie.Need-add-end
+add-end c = search needs
 
 add-result : tie.Need-add-result
 add-result c = search needs
 
 returns : tie.Need-returns
-returns c = within-moved _ _ _ (c .pre)
+unfolding withinCell
+returns c = refl
+
+returns-2 : tie.Need-returns-2
+returns-2 c = beyond-cell (c .before .args .last) _ _ (omega arith) (c .if1 .left)
 
 pub within-cell-spec : {M : Type 1} → statement M
-within-cell-spec = tie.close (tie.spec sub-result cast-result add-result returns)
+within-cell-spec = tie.close (tie.spec add-end add-result returns returns-2)
