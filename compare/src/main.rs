@@ -2,12 +2,16 @@
 //! sound, unsound and malformed. Prints how often each kind of call gave each answer, and fails where the two differ, or
 //! where an answer that can be given was not reached.
 //!
-//! Usage: compare [calls] [first seed]
+//! Then it compares the program `cellrun` itself over seeded listings.
+//!
+//! Usage: compare CALLS LISTINGS PROGRAM
 
 mod library;
+mod listings;
 
 use reference::answers::{possible, row_of, ROWS};
 use reference::gen::{self, Call, Random};
+use std::path::Path;
 use std::process::ExitCode;
 
 /// One state with its calls: the answers counted, or what differed.
@@ -49,20 +53,12 @@ fn one_state(seed: u64, counts: &mut [[u64; 14]; 14]) -> Result<u64, String> {
     Ok(40 + instructions.len() as u64)
 }
 
-fn main() -> ExitCode {
-    let mut words = std::env::args().skip(1).map(|word| word.parse::<u64>().unwrap_or(0));
-    let calls = words.next().unwrap_or(300_000);
-    let mut seed = words.next().unwrap_or(1);
+/// All calls compared; what was reached of each kind is printed. How many answers that can be given were not reached.
+fn calls(wanted: u64) -> Result<u32, String> {
     let mut counts = [[0u64; 14]; 14];
-    let mut made = 0;
-    while made < calls {
-        match one_state(seed, &mut counts) {
-            Ok(more) => made += more,
-            Err(difference) => {
-                println!("{difference}");
-                return ExitCode::FAILURE;
-            }
-        }
+    let (mut made, mut seed) = (0, 1);
+    while made < wanted {
+        made += one_state(seed, &mut counts)?;
         seed += 1;
     }
     let mut missed = 0;
@@ -75,5 +71,34 @@ fn main() -> ExitCode {
         println!();
     }
     println!("{made} calls compared, {missed} answers that can be given not reached");
-    if missed == 0 { ExitCode::SUCCESS } else { ExitCode::FAILURE }
+    Ok(missed)
+}
+
+/// Both comparisons. A listing's run is of use only where some texts were wrong and some were not.
+fn run(wanted: u64, listings: u64, program: &str) -> Result<(), String> {
+    if calls(wanted)? != 0 {
+        return Err("not every answer was reached".to_string());
+    }
+    let wrong = listings::compare(Path::new(program), listings)?;
+    println!("{listings} listings compared through cellrun, {wrong} of them wrong text");
+    if wrong == 0 || wrong == listings {
+        return Err("the listings are all of one kind".to_string());
+    }
+    Ok(())
+}
+
+fn main() -> ExitCode {
+    let words: Vec<String> = std::env::args().skip(1).collect();
+    let numbers = (words.first().and_then(|w| w.parse().ok()), words.get(1).and_then(|w| w.parse().ok()));
+    let (Some(wanted), Some(listings), Some(program)) = (numbers.0, numbers.1, words.get(2)) else {
+        println!("usage: compare CALLS LISTINGS PROGRAM");
+        return ExitCode::FAILURE;
+    };
+    match run(wanted, listings, program) {
+        Ok(()) => ExitCode::SUCCESS,
+        Err(difference) => {
+            println!("{difference}");
+            ExitCode::FAILURE
+        }
+    }
 }

@@ -1,6 +1,6 @@
 -- What is read ends behind the place where it stands, and within the text: so a loop over lines comes to an end.
 -- Assumes nothing.
-use Prim.Native.Nat.{ℕ, zero, suc, _+_, _≤_, _<_}
+use Prim.Native.Nat.{ℕ, zero, suc, _+_, _*_, _≤_, _<_}
 use mathlib.Core.Path.{_≡_, sym, _∙_}
 use mathlib.Core.List.{List, [], _∷_}
 use mathlib.Core.Bool.{true, false, _&&_, true≢false}
@@ -41,8 +41,9 @@ number-ends s at {x} {n} e = by-test (startsNumber l) right (λ h. absurd (none 
         let same : Bad ≡ Number x n = sym (rw h) ∙ e in
         let z : _≡_ {A = ℕ} 0 1 = cc in omega arith
 
+-- a number takes two bytes at least, its tab and a digit
 pub fields-advance : (s : List ℕ) (k j : ℕ) (v : List ℕ) (at : ℕ) → fieldsAt s k j v at .ok ≡ true →
-    (at < fieldsAt s k j v at .next) × (fieldsAt s k j v at .next ≤ length s)
+    (at + 2 * k < fieldsAt s k j v at .next) × (fieldsAt s k j v at .next ≤ length s)
 fields-advance s zero j v at e =
     by-test (eqb (peekAt s at) lineFeed)
     (λ h. rw h (omega arith, omega (arith, peek-inside s at (omega (arith, eqb-true (peekAt s at) lineFeed h)))))
@@ -58,9 +59,9 @@ fields-advance s (suc k) j v at e =
     (λ f. absurd (true≢false (sym e ∙ rw (h, f)))))
     (λ h. absurd (true≢false (sym e ∙ rw h)))
 
--- a right line ends behind its keyword, within the text
+-- a right line ends behind its keyword and numbers, within the text
 pub row-advance : (s : List ℕ) (at : ℕ) (w : List ℕ) (k : ℕ) → rowAt s at w k .ok ≡ true →
-    (at + length w < rowAt s at w k .next) × (rowAt s at w k .next ≤ length s)
+    (at + length w + 2 * k < rowAt s at w k .next) × (rowAt s at w k .next ≤ length s)
 unfolding rowAt
 row-advance s at w k e =
     by-test (leb k 5 && wordAt s at w)

@@ -21,7 +21,7 @@ use Rattle.text.proofs.Room.{row-line, row-length, row-fits, put-stands
 -- ---- a number
 
 -- the least number of more than f digits
-abbrev tens : (f : ℕ) → ℕ
+abbrev pub tens : (f : ℕ) → ℕ
 tens zero = 1
 tens (suc f) = 10 * tens f
 

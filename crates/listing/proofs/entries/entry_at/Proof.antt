@@ -1,0 +1,36 @@
+use borrow.Author.Needs.{needs}
+use Rattle.listing.proofs.entries.entry_at.Statement.{statement}
+use Rattle.listing.proofs.entries.entry_at.Tie as tie
+use Rattle.listing.proofs.entries.entry_at.Reads as reads
+use Rattle.listing.proofs.entries.entry_at.Lts as lts
+use Rattle.listing.proofs.entries.byte_at.Reads as byte-at-reads
+use Rattle.listing.proofs.entries.right_at.Reads as right-at-reads
+
+enum-known-kind : tie.Need-enum-known-kind
+enum-known-kind c = search needs
+
+right-at-requires : tie.Need-right-at-requires
+right-at-requires c κs = rw (c .before .kind .given .1) at (c .before .before .before .before .pre)
+
+enum-known-kind-2 : tie.Need-enum-known-kind-2
+enum-known-kind-2 c = search needs
+
+byte-at-requires : tie.Need-byte-at-requires
+byte-at-requires c κs = search needs
+
+returns : tie.Need-returns
+returns c = rw (c .before .before .kind .given .1) (c .right-at .ensures)
+
+returns-2 : tie.Need-returns-2
+returns-2 c = rw (c .before .before .kind2 .given .1) (c .byte-at .ensures)
+
+pub entry-at-spec : {M : Type 1} → statement M
+entry-at-spec =
+    tie.close
+    (tie.spec
+    enum-known-kind
+    right-at-requires
+    enum-known-kind-2
+    byte-at-requires
+    returns
+    returns-2)

@@ -1,0 +1,20 @@
+use Rattle.listing.specs.Lines.{doRow}
+use borrow.Author.Needs.{needs}
+use Rattle.listing.proofs.lines.do_row.Statement.{statement}
+use Rattle.listing.proofs.lines.do_row.Tie as tie
+use Rattle.listing.proofs.lines.do_row.Reads as reads
+use Rattle.listing.proofs.lines.do_row.Lts as lts
+use Rattle.text.proofs.row_at.Reads as row-at-reads
+
+slice-aggregate-row-at : tie.Need-slice-aggregate-row-at
+slice-aggregate-row-at c = search needs
+
+row-at-requires : tie.Need-row-at-requires
+row-at-requires c κs = search needs
+
+returns : tie.Need-returns
+unfolding doRow
+returns c = c .row-at .ensures
+
+pub do-row-spec : {M : Type 1} → statement M
+do-row-spec = tie.close (tie.spec slice-aggregate-row-at row-at-requires returns)

@@ -1,0 +1,38 @@
+use Rattle.listing.specs.Lines.{rightRow}
+use borrow.Author.Needs.{needs}
+use Rattle.listing.proofs.lines.right_row.Statement.{statement}
+use Rattle.listing.proofs.lines.right_row.Tie as tie
+use Rattle.listing.proofs.lines.right_row.Reads as reads
+use Rattle.listing.proofs.lines.right_row.Lts as lts
+use Rattle.text.proofs.row_at.Reads as row-at-reads
+use Rattle.text.proofs.within.Reads as within-reads
+
+slice-aggregate-row-at : tie.Need-slice-aggregate-row-at
+slice-aggregate-row-at c = search needs
+
+row-at-requires : tie.Need-row-at-requires
+row-at-requires c κs = search needs
+
+within-requires : tie.Need-within-requires
+within-requires c κs = search needs
+
+within-requires-2 : tie.Need-within-requires-2
+within-requires-2 c κs = search needs
+
+within-requires-3 : tie.Need-within-requires-3
+within-requires-3 c κs = search needs
+
+returns : tie.Need-returns
+unfolding rightRow
+returns c = rw (c .within3 .ensures, c .before .within2 .ensures, c .before .before .within .ensures, c .before .before .before .row-at .ensures)
+
+pub right-row-spec : {M : Type 1} → statement M
+right-row-spec =
+    tie.close
+    (tie.spec
+    slice-aggregate-row-at
+    row-at-requires
+    within-requires
+    within-requires-2
+    within-requires-3
+    returns)

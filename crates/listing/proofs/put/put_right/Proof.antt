@@ -1,0 +1,72 @@
+use Prim.Native.Nat.{_+_, _≤_}
+use lib.ListN.{length}
+use native.Mathlib.Omega.{arith}
+use native.Mathlib.Nat.{div-le-self, mod-le, mod-lt}
+use Rattle.listing.specs.Words.{rightWord}
+use Rattle.text.proofs.Writing.{put-nothing}
+use Rattle.listing.proofs.Written.{row-put, right-short, no-right, some-right}
+use borrow.Author.Needs.{needs}
+use Rattle.listing.proofs.put.put_right.Statement.{statement}
+use Rattle.listing.proofs.put.put_right.Tie as tie
+use Rattle.listing.proofs.put.put_right.Reads as reads
+use Rattle.listing.proofs.put.put_right.Lts as lts
+use Rattle.listing.proofs.put.wide.Reads as wide-reads
+use Rattle.text.proofs.put_row.Reads as put-row-reads
+
+shared-slice-read-wide : tie.Need-shared-slice-read-wide
+shared-slice-read-wide c = search needs
+
+wide-requires : tie.Need-wide-requires
+wide-requires c κs = search needs
+
+returns : tie.Need-returns
+returns c =
+    let a = c .before .before .before .before .before .args in
+    (rw (no-right (a .m) (a .rights .now) (a .e) _ (c .before .wide .ensures .0) (c .if1 .taken)) (put-nothing _ _), omega arith)
+
+slice-aggregate-put-row : tie.Need-slice-aggregate-put-row
+slice-aggregate-put-row c = search needs
+
+div-t15 : tie.Need-div-t15
+div-t15 c = search needs
+
+cast-t16 : tie.Need-cast-t16
+cast-t16 c = omega (arith, div-le-self (c .before .before .before .before .before .before .before .args .e) (c .before .before .before .before .before .before .before .args .m), c .before .before .before .before .before .before .before .pre .2)
+
+rem-t17 : tie.Need-rem-t17
+rem-t17 c = search needs
+
+cast-t18 : tie.Need-cast-t18
+cast-t18 c = omega (arith, mod-le (c .before .before .before .before .before .before .before .args .e) (c .before .before .before .before .before .before .before .args .m), c .before .before .before .before .before .before .before .pre .2)
+
+put-row-requires : tie.Need-put-row-requires
+put-row-requires c κs = search needs
+
+same-length : tie.Need-same-length
+same-length c = search needs
+
+returns-2 : tie.Need-returns-2
+returns-2 c =
+    let a = c .before .before .before .before .before .before .before .before .before .before in
+    let h = c .before .before .before .before .before .before .wide .result in
+    let room : a .args .at + 39 ≤ length (a .args .out .now) = a .pre .4 in
+    let p = row-put rightWord _ 3 (omega arith) room (c .before .before .put-row .ensures .0) in (
+      rw (some-right (a .args .m) (a .args .rights .now) (a .args .e) _ (c .before .before .before .before .before .before .wide .ensures .0) (c .before .before .before .before .before .if1 .left)) p,
+      right-short _ _ _ (omega (arith, div-le-self (a .args .e) (a .args .m), a .pre .2)) (omega (arith, mod-lt (a .args .e) (a .pre .0), a .pre .1)) (omega (arith, c .before .before .before .before .before .before .wide .ensures .1)) p,
+    )
+
+pub put-right-spec : {M : Type 1} → statement M
+put-right-spec =
+    tie.close
+    (tie.spec
+    shared-slice-read-wide
+    wide-requires
+    returns
+    slice-aggregate-put-row
+    div-t15
+    cast-t16
+    rem-t17
+    cast-t18
+    put-row-requires
+    same-length
+    returns-2)

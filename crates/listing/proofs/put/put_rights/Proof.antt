@@ -1,0 +1,56 @@
+use native.Mathlib.Omega.{arith}
+use lib.ListN.{length}
+use Prim.Native.Nat.{_-_}
+use Rattle.listing.proofs.Written.{Lined, lined-none, lined-more, lined-all}
+use Rattle.listing.specs.Output.{rightLine}
+use borrow.Author.Needs.{needs}
+use Rattle.listing.proofs.put.put_rights.Statement.{statement}
+use Rattle.listing.proofs.put.put_rights.Tie as tie
+use Rattle.listing.proofs.put.put_rights.Reads as reads
+use Rattle.listing.proofs.put.put_rights.Lts as lts
+use Rattle.listing.proofs.put.put_right.Reads as put-right-reads
+
+abbrev Inv-loop : tie.InvT-loop
+Inv-loop out₀ at m rights i₀ e₀ out i e = Lined (rightLine m rights) 18 (length rights) at out₀ out i e
+
+abbrev μ-loop : tie.MeasureT-loop
+μ-loop out₀ at m rights i₀ e₀ out i e = length rights - e
+
+loop-holds : tie.Need-loop-holds Inv-loop μ-loop
+loop-holds c = lined-none _ _ _ _ _
+
+put-right-requires : tie.Need-put-right-requires Inv-loop μ-loop
+put-right-requires c κs =
+    let asked = c .before .before .before .before .before .pre in
+    let e = c .before .loop-test .taken in
+    let inv = c .before .before .loop .inv in
+    (asked .0, asked .1, omega (arith, asked .2), omega arith, omega (arith, inv .short, inv .long, asked .3))
+
+add-e : tie.Need-add-e Inv-loop μ-loop
+add-e c = search needs
+
+loop-less : tie.Need-loop-less Inv-loop μ-loop
+loop-less c = search needs
+
+loop-again : tie.Need-loop-again Inv-loop μ-loop
+loop-again c = lined-more (c .before .before .before .before .before .loop .inv) (c .before .before .before .before .loop-test .taken) (c .before .before .put-right .ensures .0) (c .before .before .put-right .ensures .1)
+
+same-length : tie.Need-same-length Inv-loop μ-loop
+same-length c = search needs
+
+returns : tie.Need-returns Inv-loop μ-loop
+returns c = lined-all (c .before .loop .inv) (c .loop-test .left)
+
+pub put-rights-spec : {M : Type 1} → statement M
+put-rights-spec =
+    tie.close
+    (tie.spec
+    Inv-loop
+    μ-loop
+    loop-holds
+    put-right-requires
+    add-e
+    loop-less
+    loop-again
+    same-length
+    returns)

@@ -1,0 +1,210 @@
+use Prim.Native.Nat.{_*_, _≤_}
+use mathlib.Core.Path.{sym, ap, _∙_}
+use native.Mathlib.Omega.{arith}
+use lib.ListN.{length, take}
+use lib.Seq.{length-take-le}
+use borrow.Author.Tests.{not-true, not-false}
+use denote.Ref.{now}
+use Rattle.rules.specs.Numbers.{Tables, tables}
+use Rattle.text.specs.declared.line.Row.{Row}
+use Rattle.listing.specs.Lines.{coreRow}
+use Rattle.listing.specs.Listing.{Dos}
+use Rattle.listing.proofs.Whole.{core-wrong, dos-wrong, dos-right}
+use borrow.Author.Needs.{needs}
+use Rattle.listing.proofs.run.run_core.Statement.{statement}
+use Rattle.listing.proofs.run.run_core.Tie as tie
+use Rattle.listing.proofs.run.run_core.Reads as reads
+use Rattle.listing.proofs.run.run_core.Lts as lts
+use Rattle.listing.proofs.dos.dos_at.Reads as dos-at-reads
+use Rattle.listing.proofs.lines.core_row.Reads as core-row-reads
+use Rattle.listing.proofs.put.put_bad.Reads as put-bad-reads
+use Rattle.listing.proofs.run.room_for_answers.Reads as room-for-answers-reads
+use Rattle.listing.proofs.run.room_for_instructions.Reads as room-for-instructions-reads
+use Rattle.listing.proofs.run.run_listing.Reads as run-listing-reads
+
+abbrev lent : tie.Start → Tables
+lent c =
+    tables (c .args .m) (now (c .args .first)) (now (c .args .last)) (now (c .args .offset)) (now (c .args .marks)) (now (c .args .rights))
+    (now (c .args .grants)) (now (c .args .memory))
+
+-- the do lines that `dos_at` answered and left
+abbrev done : tie.After-dos-at → Dos
+done c =
+    record {
+      count = c .dos-at .result .count;
+      next = c .dos-at .result .next;
+      numbers = take (4 * c .dos-at .result .count) (c .dos-at .last .1 .1 .0);
+    }
+
+-- the numbers of the do lines lie in their list
+inside : (c : tie.After-dos-at) → 4 * c .dos-at .result .count ≤ length (c .dos-at .last .1 .1 .0)
+inside c = omega (arith, c .dos-at .ensures .1, c .dos-at .kept .1 .1 .0, c .before .before .room-for-instructions .ensures)
+
+core-row-requires : tie.Need-core-row-requires
+core-row-requires c κs = search needs
+
+add-put-bad : tie.Need-add-put-bad
+add-put-bad c = search needs
+
+cast-put-bad : tie.Need-cast-put-bad
+cast-put-bad c = search needs
+
+put-bad-requires : tie.Need-put-bad-requires
+put-bad-requires c κs = search needs
+
+same-length : tie.Need-same-length
+same-length c = search needs
+
+returns : tie.Need-returns
+returns c =
+    let a = c .before .before .before .before .before .before .before .before .before .before .before .before .before .before .before .before .before in
+    let e = c .before .before .before .before .before .before .before .core-row .ensures in (
+      rw (← core-wrong (a .args .s .now) (a .args .line) (lent a) (coreRow (a .args .s .now) (a .args .next))
+          (ap (λ (r : Row). r .ok) (sym e) ∙ not-true _ (c .before .before .before .before .if1 .taken)))
+          (c .before .before .put-bad .ensures .0),
+      omega (arith, c .before .before .put-bad .ensures .1, c .before .before .before .before .before .before .before .before .before .before .before .before .before .before .before .before .before .pre .6 .head),
+    )
+
+room-for-instructions-requires : tie.Need-room-for-instructions-requires
+room-for-instructions-requires c κs = search needs
+
+slice-aggregate-dos-at : tie.Need-slice-aggregate-dos-at
+slice-aggregate-dos-at c = search needs
+
+dos-at-requires : tie.Need-dos-at-requires
+dos-at-requires c κs = search needs
+
+add-put-bad-2 : tie.Need-add-put-bad-2
+add-put-bad-2 c = search needs
+
+add-put-bad-3 : tie.Need-add-put-bad-3
+add-put-bad-3 c = search needs
+
+add-put-bad-4 : tie.Need-add-put-bad-4
+add-put-bad-4 c = search needs
+
+cast-put-bad-2 : tie.Need-cast-put-bad-2
+cast-put-bad-2 c = search needs
+
+put-bad-requires-2 : tie.Need-put-bad-requires-2
+put-bad-requires-2 c κs = search needs
+
+same-length-2 : tie.Need-same-length-2
+same-length-2 c = search needs
+
+returns-2 : tie.Need-returns-2
+returns-2 c =
+    let a = c .before .before .before .before .before .before .before .before .before .before .before .before .before .before .before .before .before .before .before .before .before .before .before in
+    let d = c .before .before .before .before .before .before .before in (
+      rw (
+        ← c .before .before .before .before .before .before .before .before .before .before .before .before .before .core-row .ensures,
+        ← dos-wrong (a .args .s .now) (a .args .line) (lent a) (c .before .before .before .before .before .before .before .before .before .before .before .before .before .core-row .result) (not-false _ (c .before .before .before .before .before .before .before .before .before .before .if1 .left)) (done d)
+            (d .dos-at .ensures .0) (c .before .before .before .before .if2 .taken),
+      )
+          (c .before .before .put-bad2 .ensures .0),
+      omega (arith, c .before .before .put-bad2 .ensures .1, c .before .before .before .before .before .before .before .before .before .before .before .before .before .before .before .before .before .before .before .before .before .before .before .pre .6 .head),
+    )
+
+mul-end : tie.Need-mul-end
+mul-end c = search needs
+
+array-read-t40 : tie.Need-array-read-t40
+array-read-t40 c = search needs
+
+array-read-t43 : tie.Need-array-read-t43
+array-read-t43 c = search needs
+
+array-read-t46 : tie.Need-array-read-t46
+array-read-t46 c = search needs
+
+room-for-answers-requires : tie.Need-room-for-answers-requires
+room-for-answers-requires c κs = search needs
+
+room-for-answers-requires-2 : tie.Need-room-for-answers-requires-2
+room-for-answers-requires-2 c κs = search needs
+
+array-share-prefix-list : tie.Need-array-share-prefix-list
+array-share-prefix-list c = search needs
+
+slice-aggregate-run-listing : tie.Need-slice-aggregate-run-listing
+slice-aggregate-run-listing c = sym (length-take-le _ _ (inside (c .before .before .before .before .before .before .before .before .before .before)))
+
+slice-aggregate-run-listing-2 : tie.Need-slice-aggregate-run-listing-2
+slice-aggregate-run-listing-2 c = search needs
+
+slice-aggregate-run-listing-3 : tie.Need-slice-aggregate-run-listing-3
+slice-aggregate-run-listing-3 c = search needs
+
+run-listing-requires : tie.Need-run-listing-requires
+run-listing-requires c κs =
+    let asked = c .before .before .before .before .before .before .before .before .before .before .before .before .before .before .before .before .before .before .before .before .before .before .before .before .before .before .before .before .before .pre in
+    let d = c .before .before .before .before .before .before .before .before .before .before .before .before .before in (
+      (sym (c .before .before .before .before .before .before .before .before .before .room-for-answers .ensures), sym (c .before .before .before .before .before .before .before .before .room-for-answers2 .ensures)),
+      (asked .0, asked .1, asked .2, asked .3, length-take-le _ _ (inside d), d .dos-at .ensures .1, asked .6),
+    )
+
+same-length-3 : tie.Need-same-length-3
+same-length-3 c = search needs
+
+same-length-4 : tie.Need-same-length-4
+same-length-4 c = search needs
+
+same-length-5 : tie.Need-same-length-5
+same-length-5 c = search needs
+
+same-length-6 : tie.Need-same-length-6
+same-length-6 c = search needs
+
+same-length-7 : tie.Need-same-length-7
+same-length-7 c = search needs
+
+returns-3 : tie.Need-returns-3
+returns-3 c =
+    let a = c .before .before .before .before .before .before .before .before .before .before .before .before .before .before .before .before .before .before .before .before .before .before .before .before .before .before .before .before .before .before .before .before .before .before .before .before .before .before .before .before .before .before in
+    let d = c .before .before .before .before .before .before .before .before .before .before .before .before .before .before .before .before .before .before .before .before .before .before .before .before .before .before in (
+      rw (
+        ← c .before .before .before .before .before .before .before .before .before .before .before .before .before .before .before .before .before .before .before .before .before .before .before .before .before .before .before .before .before .before .before .before .core-row .ensures,
+        ← dos-right (a .args .s .now) (a .args .line) (lent a) (c .before .before .before .before .before .before .before .before .before .before .before .before .before .before .before .before .before .before .before .before .before .before .before .before .before .before .before .before .before .before .before .before .core-row .result) (not-false _ (c .before .before .before .before .before .before .before .before .before .before .before .before .before .before .before .before .before .before .before .before .before .before .before .before .before .before .before .before .before .if1 .left)) (done d)
+            (d .dos-at .ensures .0) (c .before .before .before .before .before .before .before .before .before .before .before .before .before .before .before .before .before .before .before .before .before .before .before .if2 .left),
+      )
+          (c .before .before .before .before .before .before .before .before .before .before .before .before .run-listing .ensures .0),
+      c .before .before .before .before .before .before .before .before .before .before .before .before .run-listing .ensures .1,
+    )
+
+pub run-core-spec : {M : Type 1} → statement M
+run-core-spec =
+    tie.close
+    (tie.spec
+    core-row-requires
+    add-put-bad
+    cast-put-bad
+    put-bad-requires
+    same-length
+    returns
+    room-for-instructions-requires
+    slice-aggregate-dos-at
+    dos-at-requires
+    add-put-bad-2
+    add-put-bad-3
+    add-put-bad-4
+    cast-put-bad-2
+    put-bad-requires-2
+    same-length-2
+    returns-2
+    mul-end
+    array-read-t40
+    array-read-t43
+    array-read-t46
+    room-for-answers-requires
+    room-for-answers-requires-2
+    array-share-prefix-list
+    slice-aggregate-run-listing
+    slice-aggregate-run-listing-2
+    slice-aggregate-run-listing-3
+    run-listing-requires
+    same-length-3
+    same-length-4
+    same-length-5
+    same-length-6
+    same-length-7
+    returns-3)

@@ -1,0 +1,6 @@
+-- Document 01, "The listing": its keywords, its lines, the text as a whole, and what is written.
+pub mod Words
+pub mod Lines
+pub mod Listing
+pub mod Output
+pub mod Reading
