@@ -8,17 +8,25 @@ pub enum Found {
     Nowhere,
 }
 
-// The cell that covers `x`, in tables whose cells are sound.
+// The cell that covers `x`, in tables whose cells are sound. Cells rise, so it can only be the one after those that end
+// below `x`. These are counted with no early way out, and in 32 bits, so that the loop vectorises.
 pub fn find(first: &[u32], last: &[u32], x: u32) -> Found
     requires { ⌜ CellsRise (now first) (now last) ⌝ }
     ensures { λ r. ⌜ r ≡ foundIn (now (first .entry)) (now (last .entry)) x ⌝ }
 {
-    let mut c = 0;
-    while c < first.len() {
-        if (first[c] <= x) & (x <= last[c]) {
+    let mut ended: u32 = 0;
+    let mut i = 0;
+    while i < last.len() {
+        if last[i] < x {
+            ended += 1;
+        }
+        i += 1;
+    }
+    let c = ended as usize;
+    if c < first.len() {
+        if first[c] <= x {
             return Found::At(c);
         }
-        c += 1;
     }
     Found::Nowhere
 }

@@ -2,15 +2,15 @@
 // Its one public function has no `requires`. A row of entries is passed with no early exit and with its tests
 // joined by `&` and `|`, so that the loops vectorise; the way out is at a cell.
 ghost use mathlib.Core.Path.{_≡_};
-ghost use mathlib.Core.Bool.{true, not, _&&_, _||_};
-ghost use Prim.Native.Nat.{_+_, _≤_, _<_};
+ghost use mathlib.Core.Bool.{true, false, not, _&&_, _||_};
+ghost use Prim.Native.Nat.{_+_, _*_, _≤_, _<_};
 ghost use lib.ListN.{length, getD};
 ghost use lib.Dec.{leb, ltb, eqb};
-ghost use Rattle.rules.specs.Below.{every, count};
+ghost use Rattle.rules.specs.Below.{every, count, lowest};
 ghost use Rattle.rules.specs.Numbers.{tables, inBounds};
 ghost use Rattle.rules.specs.Sound.{soundGrant, afterCellBefore, soundCell, lowestUnsound};
 ghost use Rattle.rules.specs.Refusals.{wellSized};
-ghost use Rattle.tables.specs.Check.{tablesChecked};
+ghost use Rattle.tables.specs.Check.{excess, tablesChecked};
 use rules::Answer;
 
 // Whether the entry `g` of the granter `d` is sound among `m` divisions.
@@ -22,7 +22,7 @@ fn sound_grant(m: u16, d: u16, g: u16) -> bool
     (g == 0) | ((1 <= rights) & (rights <= 7) & (target < m) & (target != d))
 }
 
-// Whether no entry of a row of rights is above 7.
+// Whether no entry of a list of rights is above 7.
 fn sound_rights(row: &[u8]) -> bool
     ensures { λ r. ⌜ r ≡ every (λ d. leb (getD (now (row .entry)) d 0) 7) (length (now (row .entry))) ⌝ }
 {
@@ -51,11 +51,27 @@ fn sound_grants(m: u16, row: &[u16]) -> bool
     ok
 }
 
-// How many entries of a row of rights are not 0.
-fn count_holders(row: &[u8]) -> usize
+// Whether the `m` grants from `start` on are sound. 32 divisions are a case of their own: the compiler then knows how long
+// a row is, and makes no loop of it.
+fn sound_offers(m: usize, grants: &[u16], start: usize) -> bool
+    requires { ⌜ (m ≤ 32) × ((start + m ≤ length (now grants)) × (length (now grants) ≤ 8192)) ⌝ }
+    ensures { λ r. ⌜ r ≡ every (λ d. soundGrant m d (getD (now (grants .entry)) (start + d) 0)) m ⌝ }
+{
+    if m == 32 {
+        let end = start + 32;
+        sound_grants(32, &grants[start..end])
+    } else {
+        let end = start + m;
+        sound_grants(m as u16, &grants[start..end])
+    }
+}
+
+// How many entries of a row of rights are not 0. Counted in bytes, so that a vector holds as many counts as it can.
+fn count_holders(row: &[u8]) -> u8
+    requires { ⌜ length (now row) ≤ 32 ⌝ }
     ensures { λ r. ⌜ r ≡ count (λ d. ltb 0 (getD (now (row .entry)) d 0)) (length (now (row .entry))) ⌝ }
 {
-    let mut n: usize = 0;
+    let mut n: u8 = 0;
     let mut i = 0;
     while i < row.len() {
         if 0 < row[i] {
@@ -68,6 +84,7 @@ fn count_holders(row: &[u8]) -> usize
 
 // Whether at most one entry of a row of rights is not 0, where the mark is 0.
 fn sound_holders(mark: u8, row: &[u8]) -> bool
+    requires { ⌜ length (now row) ≤ 32 ⌝ }
     ensures { λ r. ⌜ r ≡ (not (eqb mark 0) || leb (count (λ d. ltb 0 (getD (now (row .entry)) d 0)) (length (now (row .entry)))) 1) ⌝ }
 {
     if mark == 0 {
@@ -110,7 +127,7 @@ fn sound_order(first: &[u32], last: &[u32], offset: &[u32], c: usize) -> bool
     (e < wide(first[c])) & (o + e + 1 <= wide(offset[c]) + f)
 }
 
-// Whether cell `c` is sound.
+// Whether cell `c`, on which no right is above 7, is sound.
 fn sound_cell(
     m: usize,
     first: &[u32],
@@ -124,21 +141,41 @@ fn sound_cell(
 ) -> bool
     requires { ⌜ wellSized (tables m (now first) (now last) (now offset) (now marks) (now rights) (now grants) (now memory)) ≡ true ⌝ }
     requires { ⌜ c < length (now first) ⌝ }
+    requires { ⌜ excess m (now rights) c ≡ false ⌝ }
     ensures { λ r. ⌜ r ≡ soundCell (tables m (now (first .entry)) (now (last .entry)) (now (offset .entry)) (now (marks .entry)) (now (rights .entry)) (now (grants .entry)) (now (memory .entry))) c ⌝ }
 {
     let start = c * m;
     let end = start + m;
-    let divisions = m as u16;
     let mark = marks[c];
     let range = sound_range(first, last, offset, memory, c);
-    let held = sound_rights(&rights[start..end]);
-    let offered = sound_grants(divisions, &grants[start..end]);
+    let offered = sound_offers(m, grants, start);
     let holders = sound_holders(mark, &rights[start..end]);
     let order = sound_order(first, last, offset, c);
-    range & (mark <= 1) & held & offered & holders & order
+    range & (mark <= 1) & offered & holders & order
 }
 
-// The lowest unsound cell, or the number of cells.
+// The lowest of `n` cells on which a right is above 7, or `n`. The whole list is passed first: as a rule there is none.
+fn lowest_excess(m: usize, n: usize, rights: &[u8]) -> usize
+    requires { ⌜ (length (now rights) ≡ n * m) × (n * m ≤ 8192) ⌝ }
+    ensures { λ r. ⌜ r ≡ lowest (excess m (now (rights .entry))) n ⌝ }
+{
+    if sound_rights(rights) {
+        return n;
+    }
+    let mut k = 0;
+    while k < n {
+        let start = k * m;
+        let end = start + m;
+        if sound_rights(&rights[start..end]) {
+            k += 1;
+        } else {
+            return k;
+        }
+    }
+    k
+}
+
+// The lowest unsound cell, or the number of cells. It is at most the lowest on which a right is above 7.
 fn lowest_unsound(
     m: usize,
     first: &[u32],
@@ -152,8 +189,9 @@ fn lowest_unsound(
     requires { ⌜ wellSized (tables m (now first) (now last) (now offset) (now marks) (now rights) (now grants) (now memory)) ≡ true ⌝ }
     ensures { λ r. ⌜ r ≡ lowestUnsound (tables m (now (first .entry)) (now (last .entry)) (now (offset .entry)) (now (marks .entry)) (now (rights .entry)) (now (grants .entry)) (now (memory .entry))) ⌝ }
 {
+    let end = lowest_excess(m, first.len(), rights);
     let mut c = 0;
-    while c < first.len() {
+    while c < end {
         if sound_cell(m, first, last, offset, marks, rights, grants, memory, c) {
             c += 1;
         } else {

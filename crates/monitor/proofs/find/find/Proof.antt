@@ -1,23 +1,36 @@
--- The loop's invariant: `c` is at most N, and the search for a covering cell has come to `c`.
-use Prim.Native.Nat.{_-_, _≤_}
+-- The loop's invariant: `i` is at most N, and of the cells before `i` just the lowest `ended` end below `x`.
+use Prim.Native.Nat.{_-_, _≤_, _<_}
+use mathlib.Core.Path.{_≡_}
+use mathlib.Core.Logic.{⊎-elim}
+use native.Mathlib.Omega.{arith}
 use lib.ListN.{length}
-use Rattle.rules.specs.Instructions.{covers}
-use Rattle.rules.proofs.Below.{Searched, searched-none, searched-later}
-use Rattle.monitor.proofs.Searching.{found-here, found-nowhere}
 use borrow.Author.Needs.{needs}
+use Rattle.monitor.proofs.Searching.{Ended, ended-none, ended-more, ended-same, ended-few}
+use Rattle.monitor.proofs.Searching.{found-here, found-nowhere}
 use Rattle.monitor.proofs.find.find.Statement.{statement}
 use Rattle.monitor.proofs.find.find.Tie as tie
-use Rattle.monitor.proofs.find.find.Reads as reads
-use Rattle.monitor.proofs.find.find.Lts as lts
 
 abbrev Inv-loop : tie.InvT-loop
-Inv-loop first last x c₀ c = (c ≤ length first) × Searched (covers first last x) (length first) c
+Inv-loop first last x ended₀ i₀ ended i = (i ≤ length first) × Ended last x i ended
 
 abbrev μ-loop : tie.MeasureT-loop
-μ-loop first last x c₀ c = length first - c
+μ-loop first last x ended₀ i₀ ended i = length last - i
+
+-- the cell that is looked at is one
+its-cell : (c : tie.In-loop Inv-loop μ-loop) → c .before .loop .i < length (c .before .before .args .first .now)
+its-cell c = omega (arith, c .before .before .pre .lasts)
+
+-- in the end all have been looked at
+all-seen : (c : tie.After-loop Inv-loop μ-loop)
+    → let a = c .before .before .args in
+    Ended (a .last .now) (a .x) (length (a .first .now)) (c .before .loop .ended)
+all-seen c =
+    let start = c .before .before in
+    let e : c .before .loop .i ≡ length (start .args .first .now) = omega (arith, start .pre .lasts) in
+    rw (← e) (c .before .loop .inv .1)
 
 loop-holds : tie.Need-loop-holds Inv-loop μ-loop
-loop-holds c = (search needs, searched-none _ _)
+loop-holds c = (search needs, ended-none _ _)
 
 mul-if1 : tie.Need-mul-if1 Inv-loop μ-loop
 mul-if1 c = search needs
@@ -25,32 +38,57 @@ mul-if1 c = search needs
 shared-slice-read-if1 : tie.Need-shared-slice-read-if1 Inv-loop μ-loop
 shared-slice-read-if1 c = search needs
 
-mul-if1-2 : tie.Need-mul-if1-2 Inv-loop μ-loop
-mul-if1-2 c = search needs
+add-ended : tie.Need-add-ended Inv-loop μ-loop
+add-ended c =
+    let in-loop = c .before .before in
+    let known = in-loop .before .loop .inv .1 in
+    let start = in-loop .before .before in
+    let few : in-loop .before .loop .ended < start .args .x
+    = ended-few _ _ (start .pre) _ _ _ known (its-cell in-loop) (c .if1 .taken) in
+    omega arith
 
-shared-slice-read-if1-2 : tie.Need-shared-slice-read-if1-2 Inv-loop μ-loop
-shared-slice-read-if1-2 c = search needs
-
-returns : tie.Need-returns Inv-loop μ-loop
-unfolding covers
-returns c =
-    let at = c .before .before .before in
-    found-here _ _ _ _ (at .before .loop .inv .1) (at .loop-test .taken) (c .if1 .taken)
-
-add-c : tie.Need-add-c Inv-loop μ-loop
-add-c c = search needs
+add-i : tie.Need-add-i Inv-loop μ-loop
+add-i c = search needs
 
 loop-less : tie.Need-loop-less Inv-loop μ-loop
 loop-less c = search needs
 
 loop-again : tie.Need-loop-again Inv-loop μ-loop
-unfolding covers
 loop-again c =
-    let at = c .before .before .before in
-    (search needs, searched-later _ _ _ (at .before .loop .inv .1) (at .loop-test .taken) (c .if1 .left))
+    let in-loop = c .before .before in
+    let known = in-loop .before .loop .inv .1 in
+    let h = its-cell in-loop in
+    let rise = in-loop .before .before .pre in (
+      omega arith,
+      ⊎-elim
+          (λ w. rw (w .1) (ended-more _ _ rise _ _ _ known h (w .0 .taken)))
+          (λ w. rw (w .1) (ended-same _ _ rise _ _ _ known h (w .0 .left)))
+          (c .if1 .came),
+    )
+
+cast-c : tie.Need-cast-c Inv-loop μ-loop
+cast-c c = search needs
+
+mul-if3 : tie.Need-mul-if3 Inv-loop μ-loop
+mul-if3 c = search needs
+
+shared-slice-read-if3 : tie.Need-shared-slice-read-if3 Inv-loop μ-loop
+shared-slice-read-if3 c = search needs
+
+returns : tie.Need-returns Inv-loop μ-loop
+returns c =
+    let seen = c .before .before .before in
+    found-here _ _ (seen .before .before .pre) _ _ (all-seen seen) (c .before .before .if2 .taken) (c .if3 .taken)
 
 returns-2 : tie.Need-returns-2 Inv-loop μ-loop
-returns-2 c = found-nowhere _ _ _ _ (c .before .loop .inv .1) (c .loop-test .left)
+returns-2 c =
+    let seen = c .before .before .before in
+    found-nowhere _ _ (seen .before .before .pre) _ _ (all-seen seen) (λ _. c .if3 .left)
+
+returns-3 : tie.Need-returns-3 Inv-loop μ-loop
+returns-3 c =
+    let seen = c .before in
+    found-nowhere _ _ (seen .before .before .pre) _ _ (all-seen seen) (λ h. absurd (omega (arith, c .if2 .left)))
 
 pub find-spec : {M : Type 1} → statement M
 find-spec =
@@ -61,10 +99,13 @@ find-spec =
     loop-holds
     mul-if1
     shared-slice-read-if1
-    mul-if1-2
-    shared-slice-read-if1-2
-    returns
-    add-c
+    add-ended
+    add-i
     loop-less
     loop-again
-    returns-2)
+    cast-c
+    mul-if3
+    shared-slice-read-if3
+    returns
+    returns-2
+    returns-3)
