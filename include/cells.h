@@ -2,7 +2,8 @@
  *
  * Every call takes M, the lists first, last and offset, the marks, the rights, the grants, the memory and the registers.
  * A list is a pointer and a number of entries; nothing is asked of the lengths, and any values may be passed: the call
- * tests everything itself. Pointers must point to that many entries, also where the number is 0 (any address will do).
+ * tests everything itself. Each pointer points to that many entries and is not NULL; where the number is 0, any other aligned
+ * address will do. A list that a call may change overlaps no other list.
  *
  * number is 0 for acceptance, else 1 to 13:
  *    1  M, N or L outside its bounds, or a list of the wrong length

@@ -3,8 +3,8 @@
 
 use crate::clock::Row;
 use crate::full::{addresses, instruction, tables, Random, Tables, BLOCK, CURRENT, LONG_CELL, REGISTERS};
-use crate::library;
-use measure::quick::{self, Registers};
+use cells::Registers;
+use measure::quick;
 use std::hint::black_box;
 
 const BAR: Option<f64> = Some(1.2);
@@ -38,7 +38,7 @@ fn grants(list: &[u32]) -> Vec<[u32; 4]> {
 fn both_accept(list: &[[u32; 4]], t: &Tables) -> bool {
     let (mut t, mut u) = (t.clone(), t.clone());
     let same = list.iter().all(|&i| {
-        let ours = library::execute(&mut t.lent(), REGISTERS, i);
+        let ours = cells::execute(&mut t.lent(), REGISTERS, i);
         ours == quick::execute(&mut u.lent(), REGISTERS, i) && ours.number == 0
     });
     same && t == u
@@ -52,7 +52,7 @@ fn single(name: &str, t: &Tables, list: Vec<[u32; 4]>) -> Row {
     let calls = ours.len();
     let ours = move || {
         for &i in &ours {
-            black_box(library::execute(black_box(&mut t.lent()), black_box(REGISTERS), black_box(i)));
+            black_box(cells::execute(black_box(&mut t.lent()), black_box(REGISTERS), black_box(i)));
         }
     };
     let rust = move || {
@@ -69,13 +69,13 @@ fn block(t: &Tables) -> Row {
     let x = t.first[LONG_CELL];
     let (mut t, mut u) = (t.clone(), t.clone());
     for block in &BLOCKS {
-        let ours = library::write_block(&mut t.lent(), REGISTERS, x, block);
+        let ours = cells::write_block(&mut t.lent(), REGISTERS, x, block);
         let rust = quick::write_block(&mut u.lent(), REGISTERS, x, block);
         assert!(ours == rust && ours.number == 0 && t == u, "block write: the two sides differ");
     }
     let ours = move || {
         for block in BLOCKS.iter().cycle().take(REPEATS) {
-            black_box(library::write_block(black_box(&mut t.lent()), black_box(REGISTERS), x, black_box(block)));
+            black_box(cells::write_block(black_box(&mut t.lent()), black_box(REGISTERS), x, black_box(block)));
         }
     };
     let rust = move || {
@@ -89,12 +89,12 @@ fn block(t: &Tables) -> Row {
 fn view(t: &Tables) -> Row {
     let x = t.first[LONG_CELL];
     let (mut t, mut u) = (t.clone(), t.clone());
-    let ours = library::view(&t.lent(), REGISTERS, x, BLOCK);
+    let ours = cells::view(&t.lent(), REGISTERS, x, BLOCK);
     let answer = (ours.number, ours.value, &t.memory[ours.start..][..ours.count]);
     assert!(answer == quick::view(&u.lent(), REGISTERS, x, BLOCK) && ours.count == BLOCK, "read view: the two sides differ");
     let ours = move || {
         for _ in 0..REPEATS {
-            black_box(library::view(black_box(&t.lent()), black_box(REGISTERS), x, black_box(BLOCK)));
+            black_box(cells::view(black_box(&t.lent()), black_box(REGISTERS), x, black_box(BLOCK)));
         }
     };
     let rust = move || {
@@ -105,7 +105,7 @@ fn view(t: &Tables) -> Row {
     Row::new("read view of 4 KB", BAR, REPEATS, Box::new(ours), Box::new(rust))
 }
 
-type ExecuteAll = fn(&mut quick::Lent, Registers, &[u32], &mut [u32], &mut [u32]) -> Registers;
+type ExecuteAll = fn(&mut cells::Lent, Registers, &[u32], &mut [u32], &mut [u32]) -> Registers;
 
 /// What one side makes of a list of instructions: the registers, the answers and the lists afterwards.
 fn run_list(t: &Tables, list: &[u32], execute_all: ExecuteAll) -> (Registers, Vec<u32>, Vec<u32>, Tables) {
@@ -121,7 +121,7 @@ fn list(t: &Tables) -> Row {
     const COUNT: usize = 2000;
     let random = &mut Random(4);
     let list: Vec<u32> = (0..COUNT).flat_map(|_| instruction(t, random)).collect();
-    let (ours, rust) = (run_list(t, &list, library::execute_all), run_list(t, &list, quick::execute_all));
+    let (ours, rust) = (run_list(t, &list, cells::execute_all), run_list(t, &list, quick::execute_all));
     assert!(ours == rust, "list of instructions: the two sides differ");
     let side = |execute_all: ExecuteAll| {
         let (mut t, list) = (t.clone(), list.clone());
@@ -130,6 +130,6 @@ fn list(t: &Tables) -> Row {
             black_box(execute_all(&mut t.lent(), black_box(REGISTERS), black_box(&list), &mut numbers, &mut values));
         }
     };
-    let (ours, rust) = (side(library::execute_all), side(quick::execute_all));
+    let (ours, rust) = (side(cells::execute_all), side(quick::execute_all));
     Row::new("one of 2,000 instructions in one call", None, COUNT, Box::new(ours), Box::new(rust))
 }

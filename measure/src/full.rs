@@ -2,7 +2,8 @@
 //! same cells. All of it is a function of a seed.
 
 use measure::listing::{put_line, MOST_TEXT};
-use measure::quick::{Lent, Registers, MOST_CELLS, MOST_DIVISIONS, MOST_MEMORY};
+use cells::{Lent, Registers};
+use measure::quick::{MOST_CELLS, MOST_DIVISIONS, MOST_MEMORY};
 
 /// The one cell that is long enough for a block or view of 4 KB; every other has 240 bytes.
 pub const LONG_CELL: usize = 128;

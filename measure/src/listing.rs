@@ -2,7 +2,8 @@
 //! soon as it is read, on tables that were checked once, and its answer goes straight into the one output buffer. Where a
 //! later line turns out wrong, what the buffer holds is dropped.
 
-use crate::quick::{self, Lent, Registers, MOST_CELLS, MOST_DIVISIONS, MOST_MEMORY};
+use crate::quick::{self, MOST_CELLS, MOST_DIVISIONS, MOST_MEMORY};
+use cells::{Lent, Registers};
 
 /// A longer text is wrong as a whole.
 pub const MOST_TEXT: usize = 65_536;

@@ -6,7 +6,6 @@
 mod calls;
 mod clock;
 mod full;
-mod library;
 mod programs;
 
 use std::path::Path;

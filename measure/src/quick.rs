@@ -1,6 +1,8 @@
 //! The calls of document 01, written to be quick: every call makes checks 1, 2 and 3 in full over the lent lists, allocates
 //! nothing, and looks at the tables in loops without an early way out, which the compiler turns into vector instructions.
 
+use cells::{Lent, Registers, Reply};
+
 /// Bounds on the numbers of divisions, cells and memory bytes.
 pub const MOST_DIVISIONS: usize = 32;
 pub const MOST_CELLS: usize = 256;
@@ -11,38 +13,8 @@ const WRITE: u8 = 2;
 const EXECUTE: u8 = 4;
 const ENTRY_WORD: u32 = 11;
 
-/// One core's registers, laid out as include/cells.h has them.
-#[repr(C)]
-#[derive(Clone, Copy, PartialEq, Eq, Debug)]
-pub struct Registers {
-    pub current: u32,
-    pub caller: u32,
-    pub place: u32,
-}
-
-/// What a call answers, laid out as include/cells.h has it.
-#[repr(C)]
-#[derive(Clone, Copy, PartialEq, Eq, Debug)]
-pub struct Reply {
-    pub number: u32,
-    pub value: u32,
-    pub registers: Registers,
-}
-
 /// A number of the refusal list and its value.
 pub type Refusal = (u32, u32);
-
-/// The lists that a caller lends. N is the length of `first`, L the length of `memory`.
-pub struct Lent<'a> {
-    pub m: usize,
-    pub first: &'a [u32],
-    pub last: &'a [u32],
-    pub offset: &'a [u32],
-    pub marks: &'a mut [u8],
-    pub rights: &'a mut [u8],
-    pub grants: &'a mut [u16],
-    pub memory: &'a mut [u8],
-}
 
 // ---- checks 1 and 2
 

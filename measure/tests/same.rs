@@ -2,7 +2,8 @@
 //! nothing.
 
 use measure::listing;
-use measure::quick::{self, Lent, Registers};
+use cells::{Lent, Registers};
+use measure::quick;
 use reference::gen::{self, Call, Random};
 use reference::Tables;
 

@@ -1,4 +1,4 @@
-// The three calls of the monitor, on what is lent. Each writes its answer, and hands back the registers.
+// `execute`, `write_block`, and `view` with `view_answer`, on what is lent. Each writes its answer, and hands back the registers.
 use crate::lend::least;
 use crate::show::answer;
 use crate::show::core;

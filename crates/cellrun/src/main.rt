@@ -1,4 +1,5 @@
-// cellrun: reads a listing on standard input, runs it, and writes its answers and the state after it on standard output.
+// cellrun: reads a listing on standard input, runs it, and writes its answers, and the registers, rights and grants after it,
+// on standard output.
 ghost use mathlib.Core.Path.{_≡_};
 ghost use lib.ListN.{length};
 

@@ -1,22 +1,21 @@
 -- The local law of bytes: a call that changes a byte is an accepted store or block write, from a division then current and
 -- holding write on the valid cell covering it. Assumes nothing.
-use Prim.Native.Nat.{ℕ, zero, suc, _+_, _-_, _/_, _%_, _≤_, _<_}
-use mathlib.Core.Path.{_≡_, refl, sym, ap, _∙_, subst}
+use Prim.Native.Nat.{ℕ, zero, suc, _+_, _-_, _≤_, _<_}
+use mathlib.Core.Path.{_≡_, refl, sym, ap, _∙_}
 use mathlib.Core.Logic.{_≢_}
-use mathlib.Core.List.{List, [], _∷_, _++_}
-use mathlib.Core.Bool.{Bool, true, false, _&&_}
+use mathlib.Core.List.{List, _++_}
+use mathlib.Core.Bool.{true, false, _&&_}
 use native.Mathlib.Omega.{arith}
-use native.Mathlib.Nat.{le-refl}
 use native.Mathlib.Decide.{decLe}
 use lib.ListN.{length, getD, set, take, drop, length-append, List·getD-append}
 use lib.Seq.{getD-set-other, getD-take, getD-drop, length-take-le, getD-append-add}
 use lib.Dec.{leb, ltb, eqb}
-use borrow.Author.Tests.{leb-true, leb-false, ltb-true, ltb-false, eqb-true, eqb-false, le-leb, lt-ltb}
-use Rattle.rules.specs.Numbers.{Tables, State, N, L, write, partOf, held, firstOf, lastOf, offsetOf, markOf}
-use Rattle.rules.specs.Refusals.{firstFailing, firstChecks, refused}
+use borrow.Author.Tests.{leb-true, ltb-true, ltb-false, eqb-true, eqb-false, le-leb, lt-ltb}
+use Rattle.rules.specs.Numbers.{Tables, State, N, L, write, partOf, held, lastOf, markOf}
+use Rattle.rules.specs.Refusals.{firstChecks}
 use Rattle.rules.specs.Instructions.{addressOf, cellAt, place, valid, needs, effect}
 use Rattle.rules.specs.Blocks.{withinCell, blockNeeds, blockWritten}
-use Rattle.rules.specs.Calls.{Action, instruction, blockWrite, readView, decodedIn, kindChecks, doneAt, instructionChecks, instructionDone, blockChecks, checks, done, performed}
+use Rattle.rules.specs.Calls.{Action, instruction, blockWrite, readView, decodedIn, doneAt, instructionChecks, instructionDone, blockChecks, checks, done, performed}
 use Rattle.rules.specs.declared.Placed.{Placed}
 use Rattle.rules.specs.declared.Decoded.{Decoded}
 use Rattle.rules.specs.declared.Decoded.the-variants.{Kind, Refused}

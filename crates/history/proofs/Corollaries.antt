@@ -1,18 +1,17 @@
 -- What users ask for, each a line or two from demand 3; and what demand 3 does not say, closed by demand 2's definition.
 -- Assumes nothing.
-use Prim.Native.Nat.{ℕ, zero, suc, _*_, _+_, _≤_, _<_}
+use Prim.Native.Nat.{ℕ, zero, suc, _+_, _≤_, _<_}
 use mathlib.Core.Path.{_≡_, refl, sym, ap, _∙_, subst}
-use mathlib.Core.List.{List, [], _∷_, _++_}
+use mathlib.Core.List.{_++_}
 use mathlib.Core.Bool.{Bool, true, false, _&&_, and-false, false≢true}
 use native.Mathlib.Omega.{arith}
-use lib.ListN.{length, getD, set}
-use lib.Seq.{getD-set-same}
+use lib.ListN.{length}
 use lib.Dec.{eqb, ltb}
-use borrow.Author.Tests.{eqb-true, eqb-false}
+use borrow.Author.Tests.{eqb-true}
 use Rattle.rules.specs.Numbers.{Tables, State, N, held, grantOf, rightsIn, entry}
 use Rattle.rules.specs.Refusals.{firstChecks}
 use Rattle.rules.specs.Instructions.{addressOf, cellAt, grantNames, effect}
-use Rattle.rules.specs.Calls.{Action, instruction, blockWrite, readView, decodedIn, instructionChecks, instructionDone, kindDone, doneAt, checks, done, performed}
+use Rattle.rules.specs.Calls.{Action, instruction, blockWrite, readView, decodedIn, instructionChecks, instructionDone, doneAt, checks, done, performed}
 use Rattle.rules.specs.declared.Placed.{Placed}
 use Rattle.rules.specs.declared.Decoded.{Decoded}
 use Rattle.rules.specs.declared.Decoded.the-variants.{Kind, Refused}
@@ -25,10 +24,10 @@ use Rattle.rules.proofs.Grants.{receive-spent, transfer-leaves}
 use Rattle.rules.proofs.Kept.{Begun}
 use Rattle.rules.proofs.Sizes.{entry-below}
 use Rattle.rules.proofs.Laws.{accepted-exactly, accepted-done}
-use Rattle.history.specs.History.{Right, Run}
-use Rattle.history.specs.Shown.{has, holdsIn, offersIn, Deed, taking, making, neither, deedOf, decodedDeed, deedIn, isAccepted, takesBy, stateAt, beginsAt, shown}
+use Rattle.history.specs.History.{Right}
+use Rattle.history.specs.Shown.{has, holdsIn, offersIn, deedOf, decodedDeed, deedIn, isAccepted, takesBy, stateAt, beginsAt, shown}
 use Rattle.history.proofs.Bits.{has-none}
-use Rattle.history.proofs.Bounds.{Around, holder, offer, never-around}
+use Rattle.history.proofs.Bounds.{Around, holder, never-around}
 use Rattle.history.proofs.Local.{Accepted, accepted-kind, entry-grants, no-grant, call-gain}
 use Rattle.history.proofs.Demand3.{shown-laws}
 

@@ -1,18 +1,16 @@
 -- Demand 3, in its own words and order, over the definition that demand 2 proves the code to meet: any start, any sequence
 -- of calls (instructions as four numbers, block writes, views). `calls n` is step n + 1, and `stateAt calls start t` the
 -- state at time t. Nothing is assumed of the start: tables that are not sound refuse every call.
-use Prim.Native.Nat.{ℕ, zero, suc, _≤_, _<_}
-use mathlib.Core.Path.{_≡_, refl, sym, ap, _∙_}
+use Prim.Native.Nat.{ℕ, zero, suc, _≤_}
+use mathlib.Core.Path.{_≡_, refl, sym, _∙_}
 use mathlib.Core.Logic.{_≢_}
-use mathlib.Core.List.{List}
-use mathlib.Core.Bool.{Bool, true, false, _&&_, false≢true}
+use mathlib.Core.Bool.{true, false, false≢true}
 use Rattle.rules.specs.Numbers.{State}
 use Rattle.rules.specs.Calls.{Action}
 use Rattle.history.specs.History.{Right, Held, held-lines}
-use Rattle.history.specs.Shown.{holdsIn, offersIn, stateAt, takesAt, sourceAt, makesAt, shown, byteAt, LastWritten}
+use Rattle.history.specs.Shown.{holdsIn, stateAt, takesAt, sourceAt, shown, byteAt, LastWritten}
 use Rattle.history.proofs.Theorem.{Laws, history}
 use Rattle.history.proofs.Path.{heldPath, held-exact}
-use Rattle.history.proofs.Bounds.{Around, never-around}
 use Rattle.history.proofs.Local.{call-gain, call-named, call-made, call-kept}
 use Rattle.history.proofs.Bytes.{last-written}
 

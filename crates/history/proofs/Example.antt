@@ -11,7 +11,7 @@ use Rattle.rules.specs.Instructions.{noOperands, byteOperand, divisionOperand, 
 use Rattle.rules.specs.Calls.{kindChecks, checks, doneAt, done, performed}
 use Rattle.rules.specs.Bench.{start}
 use Rattle.rules.specs.Calls.{Action, instruction}
-use Rattle.history.specs.History.{toRead, Line, held, gift}
+use Rattle.history.specs.History.{toRead, held, gift}
 use Rattle.history.specs.Shown.{has, holdsIn, offersIn, deedOf, decodedDeed, deedIn, isAccepted, takesBy, makesBy, sourceOf, shown}
 use Rattle.history.proofs.Path.{heldPath}
 use Rattle.history.proofs.Sequences.{steps}

@@ -1,28 +1,28 @@
 -- The local laws of the rules: how one call gains a right, makes a grant, and keeps one. Assumes nothing.
-use Prim.Native.Nat.{ℕ, zero, suc, _+_, _*_, _/_, _%_, _≤_, _<_}
-use mathlib.Core.Path.{_≡_, refl, sym, ap, _∙_, subst}
+use Prim.Native.Nat.{ℕ, _+_, _*_, _/_, _≤_, _<_}
+use mathlib.Core.Path.{_≡_, refl, sym, subst}
 use mathlib.Core.Logic.{_⊎_, inl, inr}
-use mathlib.Core.List.{List, [], _∷_, _++_}
-use mathlib.Core.Bool.{Bool, true, false, not, _&&_, false≢true}
+use mathlib.Core.List.{_++_}
+use mathlib.Core.Bool.{true, false, _&&_, false≢true}
 use native.Mathlib.Omega.{arith}
 use lib.ListN.{length, getD, set}
 use lib.Seq.{getD-set-same}
-use lib.Dec.{leb, ltb, eqb}
+use lib.Dec.{ltb, eqb}
 use borrow.Author.Tests.{ltb-true, lt-ltb, eqb-true, eq-eqb}
-use Rattle.rules.specs.Numbers.{Tables, State, N, held, grantOf, grantEntry, targetIn, rightsIn, entry, partOf, join, read, write}
-use Rattle.rules.specs.Refusals.{Outcome, refused, firstChecks}
-use Rattle.rules.specs.Instructions.{addressOf, cellAt, covered, grantNames, needs, effect, putRights, putGrant}
+use Rattle.rules.specs.Numbers.{Tables, State, N, held, grantOf, grantEntry, rightsIn, entry, partOf, join}
+use Rattle.rules.specs.Refusals.{firstChecks}
+use Rattle.rules.specs.Instructions.{addressOf, cellAt, grantNames, needs, effect, putRights, putGrant}
 use Rattle.rules.specs.Blocks.{blockWritten}
 use Rattle.rules.specs.Calls.{Action, instruction, blockWrite, readView, decodedIn, kindChecks, doneAt, instructionChecks, instructionDone, checks, done, performed}
 use Rattle.rules.specs.declared.Decoded.{Decoded}
 use Rattle.rules.specs.declared.Decoded.the-variants.{Kind, Refused}
 use Rattle.rules.specs.declared.Instruction.{Instruction}
 use Rattle.rules.specs.declared.Instruction.the-variants.{Load, Store, Fetch, Switch, Protect, Grant, Receive, Transfer, Invalidate, Revalidate, Exclusive}
-use Rattle.rules.proofs.Below.{and-left, and-right, and-both, by-test, clash}
+use Rattle.rules.proofs.Below.{and-left, and-right, and-both, clash}
 use Rattle.rules.proofs.Checks.{AllHold}
 use Rattle.rules.proofs.Decoding.{InRange, Sensible, decoded-sensible}
 use Rattle.rules.proofs.Needed.{protect-held, grant-held, transfer-held}
-use Rattle.rules.proofs.Sizes.{Sized, entry-below, same-cell, same-division}
+use Rattle.rules.proofs.Sizes.{entry-below, same-cell, same-division}
 use Rattle.rules.proofs.Kept.{Begun, begun, Covering, covering}
 use Rattle.rules.proofs.Laws.{by-outcome}
 use Rattle.history.specs.History.{Right}

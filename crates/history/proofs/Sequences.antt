@@ -3,7 +3,7 @@
 use Prim.Native.Nat.{ℕ, zero, suc}
 use mathlib.Core.Path.{_≡_, refl, sym, ap, _∙_, subst}
 use mathlib.Core.List.{List, [], _∷_}
-use mathlib.Core.Bool.{Bool, true}
+use mathlib.Core.Bool.{true}
 use lib.ListN.{length, getD}
 use Rattle.rules.specs.Numbers.{State}
 use Rattle.rules.specs.Refusals.{Outcome}

@@ -1,6 +1,6 @@
 -- What a history of a right is, over any run. Time 0 is the start; step i leads from time i - 1 to time i.
 -- Nothing here knows what an instruction is.
-use Prim.Native.Nat.{ℕ, zero, suc, _≤_, _<_}
+use Prim.Native.Nat.{ℕ, suc, _≤_, _<_}
 use mathlib.Core.Path.{_≡_}
 use mathlib.Core.Bool.{Bool, true, false, _||_}
 use mathlib.Core.List.{List, [], _∷_}

@@ -1,11 +1,11 @@
 -- What a sequence of calls shows of rights and bytes: the run of document 01's rules.
 use Prim.Native.Nat.{ℕ, zero, suc, _+_, _-_, _/_, _%_, _≤_, _<_}
 use mathlib.Core.Path.{_≡_}
-use mathlib.Core.List.{List, [], _∷_}
+use mathlib.Core.List.{List}
 use mathlib.Core.Bool.{Bool, true, false, _&&_}
 use lib.ListN.{length, getD}
-use lib.Dec.{leb, ltb, eqb}
-use Rattle.rules.specs.Numbers.{Tables, State, N, write, partOf, held, grantOf, rightsIn, firstOf, lastOf, offsetOf, markOf}
+use lib.Dec.{ltb, eqb}
+use Rattle.rules.specs.Numbers.{Tables, State, N, held, grantOf, rightsIn, firstOf, lastOf, offsetOf, markOf}
 use Rattle.rules.specs.Instructions.{cellAt, place, grantNames, valid}
 use Rattle.rules.specs.Calls.{Action, instruction, blockWrite, readView, decodedIn, performed}
 use Rattle.rules.specs.declared.Placed.{Placed}

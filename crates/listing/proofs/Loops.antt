@@ -1,22 +1,20 @@
 -- Laws of the loops that read lines of one kind: what holds after so many lines. Assumes nothing.
-use Prim.Native.Nat.{ℕ, zero, suc, _+_, _-_, _*_, _≤_, _<_}
+use Prim.Native.Nat.{ℕ, _+_, _-_, _*_, _≤_, _<_}
 use mathlib.Core.Path.{_≡_, refl, sym, ap, _∙_}
 use mathlib.Core.List.{List, [], _∷_, _++_, append-assoc}
 use mathlib.Core.Bool.{Bool, true, false, _&&_}
 use native.Mathlib.Omega.{arith}
 use native.Mathlib.Nat.{sub-zero}
 use native.Mathlib.Numerals.{add-one}
-use lib.ListN.{length, getD, set, take, length-set}
+use lib.ListN.{length, set, take, length-set}
 use lib.Seq.{take-suc-set}
 use lib.Dec.{leb}
-use Rattle.text.specs.Star.{star}
 use Rattle.text.specs.declared.line.Row.{Row}
 use Rattle.text.proofs.Stars.{star-stop, star-more, star-full}
 use Rattle.listing.specs.Lines.{field, cellRow, doRow}
 use Rattle.listing.specs.Listing.{Cells, withCell, moreCells, cellsAt, Entries, withEntry, moreEntries, entriesAt, Dos, withDo, moreDos, dosAt}
 use Rattle.listing.specs.Reading.{FilledAs}
 use Rattle.listing.specs.declared.entries.Entry.{Entry}
-use Rattle.listing.specs.declared.cells.Lines.{Lines}
 use Rattle.listing.proofs.Rows.{do-advance}
 
 -- one entry more at the front
@@ -36,11 +34,6 @@ pub record CellsRead (s : List ℕ) (at n i : ℕ) (first last offset marks : Li
   pub offsets : length offset ≡ 256
   pub marked : length marks ≡ 256
   pub same : moreCells s (256 - n) (front n i first last offset marks) ≡ cellsAt s at
-
-pub cells-none : (s : List ℕ) (at : ℕ) (first last offset marks : List ℕ) → length first ≡ 256 → length last ≡ 256
-    → length offset ≡ 256 → length marks ≡ 256 → CellsRead s at 0 at first last offset marks
-cells-none s at first last offset marks a b c d =
-    record { few = omega arith; firsts = a; lasts = b; offsets = c; marked = d; same = refl }
 
 module _ {s : List ℕ} {at n i : ℕ} {first last offset marks : List ℕ} (h : CellsRead s at n i first last offset marks) where
   abbrev now-read : Cells

@@ -1,16 +1,17 @@
 -- Laws of a line within limits. Assumes nothing.
-use Prim.Native.Nat.{ℕ, zero, suc, _+_, _*_, _≤_, _<_}
+use Prim.Native.Nat.{ℕ, suc, _+_, _*_, _≤_, _<_}
 use mathlib.Core.Path.{_≡_, refl, sym, ap, _∙_}
 use mathlib.Core.List.{List}
-use mathlib.Core.Bool.{Bool, true, false, _&&_, true≢false}
+use mathlib.Core.Bool.{Bool, true, _&&_}
 use native.Mathlib.Omega.{arith}
 use native.Mathlib.Nat.{mul-le-mul-right, mul-le-mul, suc-mul}
 use lib.ListN.{length, getD}
 use lib.Dec.{ltb, leb}
-use borrow.Author.Tests.{ltb-true, leb-true}
+use borrow.Author.Tests.{ltb-true}
 use Rattle.text.specs.Line.{badRow, rowAt, rowWithin}
 use Rattle.text.specs.declared.line.Row.{Row}
-use Rattle.text.proofs.Cases.{by-test, and-left, and-right}
+use Rattle.text.proofs.Cases.{by-test, and-right}
+use Rattle.text.proofs.Lines.{within-passed}
 use Rattle.text.proofs.Advance.{row-advance}
 use Rattle.listing.specs.Words.{rightWord, grantWord, byteWord, cellWord, sizeWord, doWord}
 use Rattle.listing.specs.Lines.{field, sizeRow, cellRow, rightRow, grantRow, byteRow, doRow, rightAt, grantAt, byteAt}
@@ -25,16 +26,12 @@ module _ (r : Row) (j least limit : ℕ) where
   below : passes ≡ true → field r j < limit
   below h = ltb-true (field r j) limit (and-right (ltb j 5 && leb least (field r j)) (ltb (field r j) limit) h)
 
-  above : passes ≡ true → least ≤ field r j
-  above h =
-      leb-true least (field r j)
-      (and-right (ltb j 5) (leb least (field r j)) (and-left (ltb j 5 && leb least (field r j)) (ltb (field r j) limit) h))
-
   -- a right line within limits is that line, and its number j is within them
   pub within-ok : rowWithin r j least limit .ok ≡ true
       → (r .ok ≡ true) × (rowWithin r j least limit ≡ r) × (field r j < limit) × (least ≤ field r j)
-  unfolding rowWithin
-  within-ok e = by-test passes (λ h. (rw h at e, rw h, below h, above h)) (λ h. absurd (true≢false (sym e ∙ rw h)))
+  within-ok e =
+      let p = within-passed r j least limit e in
+      (ap (λ (r : Row). r .ok) (sym (p .0)) ∙ e, p .0, p .2, p .1)
 
   -- what holds of the line and of the bad row holds of the line within limits
   pub within-either : (P : Row → Type 0) → P r → P badRow → P (rowWithin r j least limit)

@@ -2,11 +2,11 @@
 use Prim.Native.Nat.{ℕ, zero, suc, _+_, _*_, _≤_, _<_}
 use mathlib.Core.Path.{_≡_, refl, sym, ap, _∙_}
 use mathlib.Core.List.{List, [], _∷_, _++_}
-use mathlib.Core.Bool.{Bool, true, false}
+use mathlib.Core.Bool.{true, false}
 use native.Mathlib.Omega.{arith}
-use lib.ListN.{length, getD, set, take, replicate, length-set, length-take, length-replicate}
+use lib.ListN.{length, getD, take, replicate, length-set, length-take, length-replicate}
 use lib.Seq.{getD-set-same, getD-set-other}
-use lib.Dec.{eqb, leb}
+use lib.Dec.{eqb}
 use borrow.Author.Tests.{eqb-true, eqb-false, eq-eqb, ne-eqb, le-leb, lt-leb}
 use Rattle.text.specs.Text.{Put, Ends}
 use Rattle.text.specs.declared.line.Row.{Row}
@@ -14,15 +14,13 @@ use Rattle.text.proofs.Cases.{by-test}
 use Rattle.text.proofs.Writing.{put-then}
 use Rattle.text.proofs.Room.{put-long}
 use Rattle.rules.specs.Numbers.{Tables, State, state, tables}
-use Rattle.rules.specs.Calls.{performed}
-use Rattle.rules.specs.Refusals.{Outcome}
-use Rattle.monitor.specs.Runs.{instructionAt, roomFor, afterFirst, numbersIn, valuesIn}
+use Rattle.monitor.specs.Runs.{roomFor, afterFirst, numbersIn, valuesIn}
 use Rattle.listing.specs.Words.{badWord, cellsWord}
 use Rattle.listing.specs.Lines.{field, headRow, sizeRow, rightAt, grantAt, byteAt, coreRow, registersIn}
-use Rattle.listing.specs.Listing.{Text, run, wrong, zeros, Cells, Entries, entriesAt, Dos, dosAt, cellsAt, fromDos, fromCore, fromRights, fromSize, fromHead, listingIn}
+use Rattle.listing.specs.Listing.{run, zeros, Cells, entriesAt, Dos, dosAt, cellsAt, fromDos, fromCore, fromRights, fromSize, fromHead, listingIn}
 use Rattle.listing.specs.Output.{line1, linesOf, answerTo, answerLine, linesAfter, bodyOf, outputOf}
 use Rattle.listing.specs.Reading.{FilledAs, answerOf, writtenIn}
-use Rattle.listing.specs.declared.cells.Lines.{Lines}
+use Rattle.listing.specs.declared.lines.Passed.{Passed}
 
 -- ---- parts of lists of zeros
 
@@ -123,7 +121,7 @@ module _ (s : List ℕ) (m l : ℕ) (C : Cells) where
   abbrev n : ℕ
   n = length (C .first)
 
-  pub rights-read : (R G A : Lines) (r₀ r g₀ g b₀ b : List ℕ) → r₀ ≡ zeros (n * m) → g₀ ≡ zeros (n * m) → b₀ ≡ zeros l
+  pub rights-read : (R G A : Passed) (r₀ r g₀ g b₀ b : List ℕ) → r₀ ≡ zeros (n * m) → g₀ ≡ zeros (n * m) → b₀ ≡ zeros l
       → FilledAs (entriesAt (rightAt n m s) (length s) (C .next) r₀) R r
       → FilledAs (entriesAt (grantAt n m s) (length s) (R .next) g₀) G g
       → FilledAs (entriesAt (byteAt l s) (length s) (G .next) b₀) A b

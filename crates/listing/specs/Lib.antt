@@ -1,4 +1,5 @@
--- Document 01, "The listing": its keywords, its lines, the text as a whole, and what is written.
+-- Document 01, "The listing": its keywords, its lines, the text as a whole, and what is written; and words for the contracts
+-- of the functions that read and write them (`Reading`).
 pub mod Words
 pub mod Lines
 pub mod Listing

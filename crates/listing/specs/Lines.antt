@@ -46,8 +46,8 @@ coreRow s at = rowAt s at coreWord 3
 unfoldable pub doRow : (s : List ℕ) (at : ℕ) → Row
 doRow s at = rowAt s at doWord 4
 
--- ---- the three kinds that name an entry of a list: which entry, and its value. Strictly rising by cell then division is
--- strictly rising by entry, since an entry is cell × M + division.
+-- ---- the three kinds that name an entry of a list: which entry, and its value. Strictly rising by cell then division (for a
+-- grant, the one that it is from) is strictly rising by entry, since an entry is cell × M + division and the division is below M.
 
 unfoldable pub rightAt : (n m : ℕ) (s : List ℕ) (at : ℕ) → Entry
 rightAt n m s at =

@@ -1,7 +1,6 @@
--- The text of a listing as a whole: its lines in their order, and the lowest line that breaks it. Each kind goes on while
--- lines of it stand there. A line at which it stops is no line of that kind, nor, by its keyword, of a later one, unless it
--- is the first of a later kind; so the lowest wrong line is the first at which a line that must stand there does not.
--- Assumes nothing.
+-- The text of a listing as a whole: its lines in their order, and the lowest line that breaks it. Each kind goes on while a
+-- line of it stands there that is allowed. The line at which it stops is the first of a later kind, or wrong. So the lowest
+-- wrong line is the first that must be of a kind (`cells`, `size`, `core`, or the end of the text) and is not. Assumes nothing.
 use Prim.Native.Nat.{ℕ, _+_, _*_}
 use mathlib.Core.List.{List, [], _∷_, _++_}
 use mathlib.Core.Bool.{cond, _&&_}

@@ -3,9 +3,9 @@ use Prim.Native.Nat.{ℕ, zero, suc, _+_, _/_, _%_}
 use mathlib.Core.List.{List, [], _∷_, _++_}
 use mathlib.Core.Bool.{cond}
 use lib.ListN.{length, getD}
-use lib.Dec.{eqb, leb}
+use lib.Dec.{eqb}
 use Rattle.text.specs.Text.{rowText}
-use Rattle.rules.specs.Numbers.{Tables, State, targetIn, rightsIn}
+use Rattle.rules.specs.Numbers.{State, targetIn, rightsIn}
 use Rattle.rules.specs.Refusals.{Outcome}
 use Rattle.rules.specs.Calls.{performed}
 use Rattle.rules.specs.declared.Registers.{Registers}

@@ -12,7 +12,7 @@ use Rattle.listing.specs.Output.{line3, outputOf}
 use Rattle.listing.specs.declared.entries.Entry.{Entry}
 use Rattle.listing.specs.declared.entries.Kind.{Kind}
 use Rattle.listing.specs.declared.entries.Kind.the-variants.{Right, Byte}
-use Rattle.listing.specs.declared.cells.Lines.{Lines}
+use Rattle.listing.specs.declared.lines.Passed.{Passed}
 
 -- what a line of the kind names
 abbrev pub lineOf : Kind → (s : List ℕ) (at : ℕ) → Entry
@@ -30,7 +30,7 @@ smallKind (Right n m) = (n ≤ 256) × (m ≤ 32)
 smallKind (Byte l) = l ≤ 65536
 
 -- how many lines there were, the place after them, and the list with their values
-pub record FilledAs (t : Entries) (r : Lines) (after : List ℕ) : Type 0 where
+pub record FilledAs (t : Entries) (r : Passed) (after : List ℕ) : Type 0 where
   pub counted : r .count ≡ t .count
   pub ended : r .next ≡ t .next
   pub filled : after ≡ t .list
@@ -39,11 +39,15 @@ pub record FilledAs (t : Entries) (r : Lines) (after : List ℕ) : Type 0 where
 unfoldable pub answerOf : (numbers values : List ℕ) (i : ℕ) → List ℕ
 answerOf numbers values i = line3 answerWord (i + 1) (getD numbers i 0) (getD values i 0)
 
+-- bytes that are enough for every output, with some to spare
+abbrev pub outputRoom : ℕ
+outputRoom = 532480
+
 -- the buffer has room for every output, behind `cells 1`
 pub record Roomy (at : ℕ) (out : List ℕ) : Type 0 where
   pub head : at ≤ 17
-  pub room : 532480 ≤ length out
+  pub room : outputRoom ≤ length out
 
 -- what is written to a buffer: nothing, where it is shorter than every output may need
 unfoldable pub writtenIn : (out s : List ℕ) → List ℕ
-writtenIn out s = cond (leb 532480 (length out)) (outputOf s) []
+writtenIn out s = cond (leb outputRoom (length out)) (outputOf s) []

@@ -3,13 +3,8 @@ ghost use mathlib.Core.Path.{_≡_};
 ghost use Prim.Native.Nat.{_≤_};
 ghost use lib.ListN.{length, take};
 ghost use Rattle.listing.specs.Listing.{cellsAt};
+use crate::lines::Passed;
 use crate::lines::cell_row;
-
-// How many lines of a kind there are, and the place after them.
-pub struct Lines {
-    pub count: usize,
-    pub next: usize,
-}
 
 // The cell lines from a place on. The fronts of the lists are filled, an entry to a line.
 pub fn cells_at(
@@ -19,7 +14,7 @@ pub fn cells_at(
     last: &mut [u32],
     offset: &mut [u32],
     marks: &mut [u8],
-) -> Lines
+) -> Passed
     requires { ⌜ (length (now first) ≡ 256) × (length (now last) ≡ 256) × (length (now offset) ≡ 256) × (length (now marks) ≡ 256) ⌝ }
     ensures { λ r. ⌜ cellsAt (now (s .entry)) at ≡ record { next = r .next; first = take (r .count) (now (first .exit)); last = take (r .count) (now (last .exit)); offset = take (r .count) (now (offset .exit)); marks = take (r .count) (now (marks .exit)) } ⌝ }
     ensures { λ r. ⌜ r .count ≤ 256 ⌝ }
@@ -30,7 +25,7 @@ pub fn cells_at(
         let r = cell_row(s, i);
         let v = r.v;
         if !r.ok {
-            return Lines { count: n, next: i };
+            return Passed { count: n, next: i };
         }
         first[n] = v[0];
         last[n] = v[1];
@@ -39,5 +34,5 @@ pub fn cells_at(
         i = r.next;
         n += 1;
     }
-    Lines { count: n, next: i }
+    Passed { count: n, next: i }
 }

@@ -5,7 +5,7 @@ ghost use lib.ListN.{length};
 ghost use Rattle.listing.specs.Lines.{rightAt, byteAt};
 ghost use Rattle.listing.specs.Listing.{entriesAt};
 ghost use Rattle.listing.specs.Reading.{lineOf, sizeOf, smallKind, FilledAs};
-use crate::cells::Lines;
+use crate::lines::Passed;
 use crate::lines::byte_row;
 use crate::lines::right_row;
 
@@ -61,7 +61,7 @@ fn entry_at(s: &[u8], at: usize, kind: Kind) -> Entry
 }
 
 // The lines of a kind from a place on, and their values in the list.
-pub fn fill_bytes(s: &[u8], at: usize, kind: Kind, list: &mut [u8]) -> Lines
+pub fn fill_bytes(s: &[u8], at: usize, kind: Kind, list: &mut [u8]) -> Passed
     requires { ⌜ (smallKind kind) × (sizeOf kind ≡ length (now list)) ⌝ }
     ensures { λ r. ⌜ FilledAs (entriesAt (lineOf kind (now (s .entry))) (length (now (s .entry))) at (now (list .entry))) r (now (list .exit)) ⌝ }
     ensures { λ r. ⌜ r .count ≤ length (now (s .entry)) ⌝ }
@@ -74,12 +74,12 @@ pub fn fill_bytes(s: &[u8], at: usize, kind: Kind, list: &mut [u8]) -> Lines
         let key = e.key;
         let rises = e.ok & (least <= key);
         if !rises {
-            return Lines { count: n, next: i };
+            return Passed { count: n, next: i };
         }
         list[key] = e.value as u8;
         least = key + 1;
         i = e.next;
         n += 1;
     }
-    Lines { count: n, next: i }
+    Passed { count: n, next: i }
 }

@@ -5,8 +5,8 @@ ghost use lib.ListN.{length};
 ghost use Rattle.listing.specs.Lines.{grantAt};
 ghost use Rattle.listing.specs.Listing.{entriesAt};
 ghost use Rattle.listing.specs.Reading.{FilledAs};
-use crate::cells::Lines;
 use crate::entries::Entry;
+use crate::lines::Passed;
 use crate::lines::grant_row;
 
 fn grant_at(s: &[u8], at: usize, n: u32, m: u32) -> Entry
@@ -24,7 +24,7 @@ fn grant_at(s: &[u8], at: usize, n: u32, m: u32) -> Entry
 }
 
 // The grant lines of n cells and m divisions.
-pub fn fill_grants(s: &[u8], at: usize, n: u32, m: u32, list: &mut [u16]) -> Lines
+pub fn fill_grants(s: &[u8], at: usize, n: u32, m: u32, list: &mut [u16]) -> Passed
     requires { ⌜ (n ≤ 256) × (1 ≤ m) × (m ≤ 32) × (n * m ≡ length (now list)) ⌝ }
     ensures { λ r. ⌜ FilledAs (entriesAt (grantAt n m (now (s .entry))) (length (now (s .entry))) at (now (list .entry))) r (now (list .exit)) ⌝ }
     ensures { λ r. ⌜ r .count ≤ length (now (s .entry)) ⌝ }
@@ -37,12 +37,12 @@ pub fn fill_grants(s: &[u8], at: usize, n: u32, m: u32, list: &mut [u16]) -> Lin
         let key = e.key;
         let rises = e.ok & (least <= key);
         if !rises {
-            return Lines { count: k, next: i };
+            return Passed { count: k, next: i };
         }
         list[key] = e.value;
         least = key + 1;
         i = e.next;
         k += 1;
     }
-    Lines { count: k, next: i }
+    Passed { count: k, next: i }
 }

@@ -5,6 +5,12 @@ use text::Row;
 use text::row_at;
 use text::within;
 
+// How many lines of a kind there are, and the place after them.
+pub struct Passed {
+    pub count: usize,
+    pub next: usize,
+}
+
 pub fn head_row(s: &[u8], at: usize) -> Row
     ensures { λ r. ⌜ r ≡ headRow (now (s .entry)) at ⌝ }
 {

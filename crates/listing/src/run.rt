@@ -24,7 +24,7 @@ use crate::put::put_state;
 use monitor::execute_all;
 use rules::Registers;
 
-// Room for the longest output: 5,957 answers, the core, and 8,192 rights and grants.
+// Room for every output, with some to spare: `cells 1`, 5,957 answers, the core, 8,192 rights and 8,192 grants.
 const ROOM: usize = 532480;
 
 // Lists at their largest. Each comes from a function of its own, so that a proof knows no more of it than it needs.
@@ -58,8 +58,8 @@ fn no_bytes() -> [u8; 65536]
     [0; 65536]
 }
 
-// The instructions run, four numbers each: the answers, and the state after them.
-fn run_listing(
+// Runs the instructions, four numbers each, and writes their answers and the state after them; the place after.
+fn run_instructions(
     m: usize,
     first: &[u32],
     last: &[u32],
@@ -138,7 +138,7 @@ fn run_core(
     };
     let mut numbers = room_for_answers();
     let mut values = room_for_answers();
-    run_listing(
+    run_instructions(
         m,
         first,
         last,

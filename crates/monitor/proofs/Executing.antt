@@ -1,14 +1,13 @@
 -- Laws of an instruction given as four numbers, past checks 1, 2 and 3. Assumes nothing.
 use Prim.Native.Nat.{ℕ, _≤_}
-use mathlib.Core.Path.{_≡_, refl, sym, ap, _∙_, subst}
+use mathlib.Core.Path.{_≡_, sym, ap, _∙_, subst}
 use mathlib.Core.Logic.{_⊎_, inl, inr}
-use mathlib.Core.List.{List, [], _∷_}
-use mathlib.Core.Bool.{false}
+use mathlib.Core.List.{[]}
 use native.Mathlib.Omega.{arith}
 use borrow.Author.Tests.{ne-eqb}
 use Rattle.rules.specs.Numbers.{State}
-use Rattle.rules.specs.Refusals.{noSuchInstruction, badOperand, _unless_, firstFailing, refused, answered, firstChecks}
-use Rattle.rules.specs.Calls.{Action, instruction, decodedIn, kindChecks, kindDone, instructionChecks, instructionDone, done, performed}
+use Rattle.rules.specs.Refusals.{noSuchInstruction, badOperand, firstFailing, answered, firstChecks}
+use Rattle.rules.specs.Calls.{instruction, decodedIn, kindChecks, kindDone, instructionChecks, instructionDone, done, performed}
 use Rattle.rules.specs.declared.Decoded.{Decoded}
 use Rattle.rules.specs.declared.Decoded.the-variants.{Kind, Refused}
 use Rattle.rules.specs.declared.Placed.{Placed}

@@ -1,21 +1,20 @@
 -- What the tests before it say to a judge or an effect: the cell, its entries and its bytes are there. Assumes nothing.
 use Prim.Native.Nat.{ℕ, suc, _+_, _-_, _*_, _%_, _≤_, _<_}
-use mathlib.Core.Path.{_≡_, refl, sym, _∙_, subst}
-use mathlib.Core.Bool.{Bool, true, _&&_}
+use mathlib.Core.Path.{_≡_, subst}
+use mathlib.Core.Bool.{true}
 use native.Mathlib.Omega.{arith}
-use lib.ListN.{length, getD}
-use lib.Dec.{leb, ltb, eqb}
+use lib.ListN.{length}
+use lib.Dec.{ltb, eqb}
 use borrow.Author.Tests.{leb-true, ltb-true}
-use Rattle.rules.specs.Numbers.{Tables, State, N, L, firstOf, lastOf, offsetOf, entry}
+use Rattle.rules.specs.Numbers.{Tables, N, L, firstOf, lastOf, offsetOf}
 use Rattle.rules.specs.Sound.{afterCellBefore}
-use Rattle.rules.specs.Instructions.{addressOf, place, wholeWord}
-use Rattle.rules.specs.Blocks.{withinCell}
+use Rattle.rules.specs.Instructions.{addressOf, wholeWord}
 use Rattle.rules.specs.declared.Instruction.{Instruction}
 use Rattle.rules.proofs.Decoding.{InRange}
 use Rattle.rules.proofs.Below.{and-left, and-right}
 use Rattle.rules.proofs.Sizes.{Sized, row-below, entry-below}
 use Rattle.rules.proofs.SoundCells.{SoundCell, AllSound}
-use Rattle.rules.proofs.Kept.{Begun, Covering}
+use Rattle.rules.proofs.Kept.{Covering}
 use Rattle.monitor.specs.Leaves.{CellsRise}
 
 -- ---- a cell and its entries

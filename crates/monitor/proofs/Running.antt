@@ -1,13 +1,13 @@
 -- Laws of instructions one after the other: a turn of the loop, and a list that is refused as a whole. Assumes nothing.
-use Prim.Native.Nat.{ℕ, zero, suc, _+_, _*_, _/_, _≤_, _<_, min}
+use Prim.Native.Nat.{ℕ, zero, suc, _+_, _*_, _≤_}
 use mathlib.Core.Path.{_≡_, refl, sym, ap, _∙_, subst}
-use mathlib.Core.List.{List, [], _∷_}
+use mathlib.Core.List.{List}
 use native.Mathlib.Omega.{arith}
 use native.Mathlib.Numerals.{add-one}
-use lib.ListN.{length, getD, set, length-set}
+use lib.ListN.{length, set, length-set}
 use Rattle.rules.specs.Numbers.{State}
-use Rattle.rules.specs.Refusals.{Outcome, refused}
-use Rattle.rules.specs.Calls.{Action, performed}
+use Rattle.rules.specs.Refusals.{Outcome}
+use Rattle.rules.specs.Calls.{performed}
 use Rattle.rules.specs.declared.Answer.{Answer}
 use Rattle.rules.proofs.Kept.{Begun, SameShape, shape-same, shape-then}
 use Rattle.rules.proofs.Laws.{begun-kept, shape-kept}

@@ -1,6 +1,6 @@
 -- What the two searches answer: the covering cell, and the lowest other holder. Assumes nothing.
 use Prim.Native.Nat.{ℕ, zero, suc, _+_, _*_, _≤_, _<_}
-use mathlib.Core.Path.{_≡_, refl, sym, _∙_}
+use mathlib.Core.Path.{_≡_, refl, sym}
 use mathlib.Core.List.{List}
 use mathlib.Core.Bool.{Bool, true, false, cond, not, _&&_, and-false}
 use native.Mathlib.Omega.{arith}

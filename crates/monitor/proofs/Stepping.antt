@@ -1,16 +1,14 @@
 -- Laws of one well-formed instruction, in the words of code that finds its cell, judges it and applies it.
 -- Assumes nothing.
-use Prim.Native.Nat.{ℕ, _≤_, _<_}
-use mathlib.Core.Path.{_≡_, refl, sym, ap, _∙_, subst}
-use mathlib.Core.List.{List, [], _∷_}
-use mathlib.Core.Bool.{Bool, true, false, cond}
+use Prim.Native.Nat.{ℕ, _≤_}
+use mathlib.Core.Path.{_≡_, sym, _∙_, subst}
+use mathlib.Core.List.{[]}
+use mathlib.Core.Bool.{false}
 use native.Mathlib.Omega.{arith}
-use lib.ListN.{length}
-use lib.Dec.{ltb, eqb}
-use borrow.Author.Tests.{ltb-true, lt-ltb, ne-eqb}
-use Rattle.rules.specs.Numbers.{State, Tables, N}
-use Rattle.rules.specs.Refusals.{notCovered, Check, firstFailing, Outcome, refused, answered, refusedValue}
-use Rattle.rules.specs.Instructions.{addressOf, coveringCell, covered, cellAt, needs}
+use borrow.Author.Tests.{ne-eqb}
+use Rattle.rules.specs.Numbers.{State, Tables}
+use Rattle.rules.specs.Refusals.{notCovered, Check, firstFailing, refused, answered}
+use Rattle.rules.specs.Instructions.{addressOf, covered, needs}
 use Rattle.rules.specs.Calls.{kindChecks, kindDone, doneAt}
 use Rattle.rules.specs.declared.Instruction.{Instruction}
 use Rattle.rules.specs.declared.Instruction.the-variants.{Load, Store, Fetch, Switch, Protect, Grant, Receive, Transfer, Invalidate, Revalidate, Exclusive}

@@ -38,7 +38,7 @@ pub struct Reply {
     pub registers: Registers,
 }
 
-// Where a read view's part begins in the memory, and how many bytes it has; both 0 on a refusal.
+// A read view's number and value, where its part begins in the memory, and how many bytes it has; both 0 on a refusal.
 #[repr(C)]
 pub struct ViewPlace {
     pub number: u32,

@@ -1,13 +1,12 @@
 -- Laws of the words for the numbers below a bound. Assumes nothing.
 use Prim.Native.Nat.{ℕ, zero, suc, _+_, _-_, _≤_, _<_}
 use mathlib.Core.Path.{_≡_, refl, sym, ap, _∙_, subst}
-use mathlib.Core.Logic.{_⊎_, inl, inr}
-use mathlib.Core.Bool.{Bool, true, false, cond, _&&_, and-false, true≢false}
+use mathlib.Core.Bool.{Bool, true, false, cond, _&&_, true≢false}
 use native.Mathlib.Omega.{arith}
 use native.Mathlib.Numerals.{add-one}
 use native.Mathlib.Nat.{add-zero, sub-zero}
 use lib.Dec.{ltb, eqb}
-use borrow.Author.Tests.{ltb-true, ltb-false, eqb-true, eqb-false, lt-ltb, eq-eqb}
+use borrow.Author.Tests.{ltb-true, ltb-false, eqb-true, eqb-false}
 use Rattle.rules.specs.Below.{every, count, lowestFrom, lowest}
 
 -- ---- two Booleans
@@ -229,11 +228,3 @@ module _ (p : ℕ → Bool) where
       (λ a. let l : lowest p n < i = ltb-true _ _ a in clash _ (lowest-passes n (omega arith)) (f (lowest p n) l))
       (λ a. by-test (ltb i (lowest p n)) (λ b. clash _ e (lowest-before n i (ltb-true _ _ b)))
       (λ b. omega (arith, ltb-false (lowest p n) i a, ltb-false i (lowest p n) b)))
-
-pub lowest-same : (p q : ℕ → Bool) (n : ℕ) → ((k : ℕ) → k < n → p k ≡ q k) → lowest p n ≡ lowest q n
-lowest-same p q n f =
-    by-test (ltb (lowest p n) n)
-    (λ e. let h : lowest p n < n = ltb-true _ _ e in
-    sym (lowest-is q n (lowest p n) h (sym (f _ h) ∙ lowest-passes p n h) (λ k l. sym (f k (omega arith)) ∙ lowest-before p n k l)))
-    (λ e. let z : lowest p n ≡ n = omega (arith, ltb-false (lowest p n) n e, lowest-le p n) in
-    z ∙ sym (lowest-none q n (λ k h. sym (f k h) ∙ lowest-all p n z k h)))

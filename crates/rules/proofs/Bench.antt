@@ -1,6 +1,6 @@
 -- Document 01's bench cases with P hold of the definitions: one theorem over one table. Assumes nothing.
 use mathlib.Core.Path.{_≡_, refl}
-use mathlib.Core.List.{List, map}
+use mathlib.Core.List.{map}
 use Rattle.rules.specs.Below.{every, count, lowestFrom, lowest}
 use Rattle.rules.specs.Numbers.{inBounds, rightLengths, partOf, larger, join}
 use Rattle.rules.specs.Sound.{soundGrant, holders, afterCellBefore, soundCell, soundTables, lowestUnsound}

@@ -1,6 +1,6 @@
 -- Laws of a list of checks: when all hold, which fails first, and what a call then answers. Assumes nothing.
-use Prim.Native.Nat.{ℕ, zero, suc, _≤_}
-use mathlib.Core.Path.{_≡_, refl, sym, ap, _∙_, subst}
+use Prim.Native.Nat.{ℕ, _≤_}
+use mathlib.Core.Path.{_≡_, refl, sym, _∙_}
 use mathlib.Core.List.{List, [], _∷_, _++_}
 use mathlib.Core.Bool.{Bool, true, false, cond}
 use native.Mathlib.Omega.{arith}
@@ -8,7 +8,6 @@ use lib.Dec.{eqb}
 use borrow.Author.Tests.{eqb-true, eqb-false, ne-eqb}
 use Rattle.rules.specs.Numbers.{Tables, State}
 use Rattle.rules.specs.Refusals.{Check, firstFailing, Outcome, refused, refusedValue, answered}
-use Rattle.rules.proofs.Below.{by-test}
 
 -- ---- a property of every entry of a list
 

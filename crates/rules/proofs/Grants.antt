@@ -1,13 +1,13 @@
 -- Laws of grant, receive and transfer: an accepted receive takes a standing grant made out to the current division and
 -- leaves none, and a transfer leaves its maker no right. Assumes nothing.
 use Prim.Native.Nat.{ℕ, _<_}
-use mathlib.Core.Path.{_≡_, refl}
-use mathlib.Core.Bool.{Bool, true, not, _&&_}
-use lib.ListN.{length, set, getD}
+use mathlib.Core.Path.{_≡_}
+use mathlib.Core.Bool.{true, not}
+use lib.ListN.{length}
 use lib.Seq.{getD-set-same}
 use lib.Dec.{eqb}
 use borrow.Author.Tests.{eqb-true, eqb-false, not-true}
-use Rattle.rules.specs.Numbers.{Tables, N, entry, held, grantOf, grantEntry, targetIn, rightsIn, join}
+use Rattle.rules.specs.Numbers.{Tables, entry, held, grantOf, grantEntry, targetIn, rightsIn, join}
 use Rattle.rules.specs.Instructions.{grantNames, needs, effect}
 use Rattle.rules.specs.declared.Instruction.the-variants.{Grant, Receive, Transfer}
 use Rattle.rules.proofs.Below.{and-left, and-right}

@@ -1,25 +1,23 @@
 -- An accepted call leaves lengths as they were and sound tables sound. Assumes nothing.
-use Prim.Native.Nat.{ℕ, zero, suc, _+_, _-_, _*_, _≤_, _<_}
-use mathlib.Core.Path.{_≡_, refl, sym, ap, _∙_, subst}
-use mathlib.Core.List.{List, [], _∷_, _++_}
-use mathlib.Core.Bool.{Bool, true, false, not, _&&_}
+use Prim.Native.Nat.{ℕ, _+_, _-_, _≤_, _<_}
+use mathlib.Core.Path.{_≡_, refl, _∙_}
+use mathlib.Core.List.{List, _++_}
+use mathlib.Core.Bool.{true, _&&_}
 use native.Mathlib.Omega.{arith}
-use lib.ListN.{length, getD, set, take, drop, length-set, length-append, length-drop}
+use lib.ListN.{length, take, drop, length-set, length-append, length-drop}
 use lib.Seq.{length-take-le}
-use lib.Dec.{leb, ltb, eqb}
+use lib.Dec.{leb, ltb}
 use borrow.Author.Tests.{leb-true, ltb-true, eqb-true, lt-ltb}
 use Rattle.rules.specs.Below.{lowest}
-use Rattle.rules.specs.Numbers.{Tables, tables, State, N, L, inBounds, rightLengths, firstOf, lastOf, offsetOf, markOf, held, grantOf, grantEntry, rightsIn, join}
-use Rattle.rules.specs.Sound.{soundTables}
+use Rattle.rules.specs.Numbers.{Tables, tables, State, N, L, rightLengths, firstOf, lastOf, markOf, held, grantOf, grantEntry, rightsIn, join}
 use Rattle.rules.specs.Refusals.{Check, firstChecks, wellSized, knownDivisions}
-use Rattle.rules.specs.Instructions.{addressOf, covers, coveringCell, covered, cellAt, valid, place, needs, effect, registersAfter, withMemory, putRights, putGrant}
-use Rattle.rules.specs.Blocks.{withinCell, blockNeeds, blockWritten}
-use Rattle.rules.specs.Calls.{kindChecks, blockChecks}
+use Rattle.rules.specs.Instructions.{covers, coveringCell, covered, cellAt, valid, place, needs, effect, putRights, putGrant}
+use Rattle.rules.specs.Blocks.{withinCell, blockWritten}
 use Rattle.rules.specs.declared.Instruction.{Instruction}
 use Rattle.rules.specs.declared.Instruction.the-variants.{Load, Store, Fetch, Switch, Protect, Grant, Receive, Transfer, Invalidate, Revalidate, Exclusive}
 use Rattle.rules.proofs.Below.{and-left, and-right, and-both, lowest-passes}
 use Rattle.rules.proofs.Rights.{join-le}
-use Rattle.rules.proofs.Checks.{AllHold, Holds, each-left, each-right}
+use Rattle.rules.proofs.Checks.{AllHold}
 use Rattle.rules.proofs.Decoding.{InRange}
 use Rattle.rules.proofs.Sizes.{Sized, sized}
 use Rattle.rules.proofs.SoundCells.{SoundCell, AllSound, all-sound, sound-all, rights-put, grant-put, mark-put, memory-put, none-sound, offer-sound, nobody-lone}

@@ -4,14 +4,13 @@ use mathlib.Core.Path.{_≡_, refl, sym, ap, _∙_, subst}
 use mathlib.Core.Logic.{_↔_}
 use mathlib.Core.List.{List, [], _∷_, _++_}
 use mathlib.Core.Bool.{Bool, true, false, _&&_}
-use native.Mathlib.Omega.{arith}
 use lib.ListN.{length}
 use lib.Dec.{ltb, eqb}
-use borrow.Author.Tests.{eqb-false, ltb-true, lt-ltb}
-use Rattle.rules.specs.Numbers.{State, state, Tables, L, read, write, switched}
+use borrow.Author.Tests.{eqb-false, lt-ltb}
+use Rattle.rules.specs.Numbers.{State, L, read, write, switched}
 use Rattle.rules.specs.Sound.{soundTables}
-use Rattle.rules.specs.Refusals.{firstFailing, Outcome, refused, answered, firstChecks, wellSized, knownDivisions}
-use Rattle.rules.specs.Instructions.{decoded, place, registersAfter, cellAt, addressOf, effect, placed, instructionTable, noOperands, byteOperand, rightsOperand, grantOperands, sourceOperand}
+use Rattle.rules.specs.Refusals.{firstFailing, Outcome, refused, firstChecks, wellSized, knownDivisions}
+use Rattle.rules.specs.Instructions.{decoded, place, registersAfter, cellAt, addressOf, placed, noOperands, byteOperand, rightsOperand, grantOperands, sourceOperand}
 use Rattle.rules.specs.Blocks.{blockNeeds}
 use Rattle.rules.specs.Calls.{Action, instruction, blockWrite, readView, decodedIn, kindChecks, doneAt, instructionChecks, instructionDone, blockChecks, checks, done, performed, afterAll}
 use Rattle.rules.specs.declared.Registers.{Registers}
@@ -19,11 +18,11 @@ use Rattle.rules.specs.declared.Decoded.{Decoded}
 use Rattle.rules.specs.declared.Decoded.the-variants.{Kind, Refused}
 use Rattle.rules.specs.declared.Instruction.{Instruction}
 use Rattle.rules.specs.declared.Instruction.the-variants.{Load, Store, Fetch, Switch, Protect, Grant, Receive, Transfer, Invalidate, Revalidate, Exclusive}
-use Rattle.rules.proofs.Below.{and-left, and-right, and-both}
+use Rattle.rules.proofs.Below.{and-left, and-both}
 use Rattle.rules.proofs.Checks.{AllHold, FirstToFail, all-accept, accept-all, first-fails, answer-case, answer-number, answer-refused, answer-done}
 use Rattle.rules.proofs.Decoding.{Sensible, InRange, decoded-sensible}
 use Rattle.rules.proofs.Order.{Ordered, checks-ordered, checks-numbered}
-use Rattle.rules.proofs.SoundCells.{AllSound, all-sound, sound-all}
+use Rattle.rules.proofs.SoundCells.{AllSound, sound-all}
 use Rattle.rules.proofs.Kept.{SameShape, shape-same, shape-sized, effect-shape, Begun, begun, first-holds, covering, block-inside, effect-sound, block-shape, block-sound}
 
 -- ---- number, value, and what a refusal changes

@@ -1,18 +1,17 @@
 -- The checks of every call stand in the refusal list's order, and none has number 0. Assumes nothing.
 use Prim.Native.Nat.{ℕ, _≤_}
 use mathlib.Core.Path.{_≡_, refl, sym, subst}
-use mathlib.Core.Logic.{_⊎_, inl, inr}
+use mathlib.Core.Logic.{inl, inr}
 use mathlib.Core.List.{List, [], _∷_, _++_, map}
 use mathlib.Core.Bool.{Bool, true, false, cond, false≢true}
 use native.Mathlib.Omega.{arith}
-use lib.ListN.{length}
 use lib.Dec.{eqb}
 use borrow.Author.Tests.{eqb-true}
-use Rattle.rules.specs.Numbers.{State, Tables}
-use Rattle.rules.specs.Refusals.{noSuchInstruction, badOperand, refusalList, Check, _unless_, firstChecks}
+use Rattle.rules.specs.Numbers.{State}
+use Rattle.rules.specs.Refusals.{refusalList, Check, firstChecks}
 use Rattle.rules.specs.Instructions.{needs}
 use Rattle.rules.specs.Blocks.{blockNeeds}
-use Rattle.rules.specs.Calls.{Action, instruction, blockWrite, readView, decodedIn, kindChecks, instructionChecks, blockChecks, checks}
+use Rattle.rules.specs.Calls.{Action, instruction, blockWrite, readView, decodedIn, kindChecks, instructionChecks, checks}
 use Rattle.rules.specs.declared.Decoded.{Decoded}
 use Rattle.rules.specs.declared.Decoded.the-variants.{Kind, Refused}
 use Rattle.rules.specs.declared.Instruction.{Instruction}

@@ -4,13 +4,11 @@ use mathlib.Core.Path.{_≡_, refl, sym, ap, _∙_}
 use mathlib.Core.List.{List, [], _∷_, _++_}
 use mathlib.Core.Bool.{Bool, true, false, cond}
 use lib.ListN.{length}
-use lib.Dec.{eqb}
 use borrow.Author.Tests.{ne-eqb}
 use Rattle.rules.specs.Numbers.{State, read, write}
 use Rattle.rules.specs.Refusals.{Check, firstFailing, Outcome, refused, answered, firstChecks}
 use Rattle.rules.specs.Calls.{Action, instruction, blockWrite, readView, decodedIn, instructionChecks, blockChecks, checks, done, performed}
-use Rattle.rules.proofs.Below.{by-test}
-use Rattle.rules.proofs.Checks.{AllHold, all-accept}
+use Rattle.rules.proofs.Checks.{AllHold}
 
 -- ---- a list of checks made in two parts
 

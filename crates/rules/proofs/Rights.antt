@@ -1,10 +1,9 @@
 -- Laws of rights: part of, and joined. Assumes nothing.
-use Prim.Native.Nat.{ℕ, _+_, _*_, _/_, _%_, _≤_, _<_}
-use mathlib.Core.Path.{_≡_, refl, sym, _∙_}
+use Prim.Native.Nat.{ℕ, _/_, _%_, _≤_}
 use mathlib.Core.Bool.{Bool, true, false, cond}
 use native.Mathlib.Omega.{arith}
 use lib.Dec.{leb}
-use Rattle.rules.specs.Numbers.{partOf, larger, join}
+use Rattle.rules.specs.Numbers.{larger, join}
 
 pub larger-le : (a b k : ℕ) → a ≤ k → b ≤ k → larger a b ≤ k
 unfolding larger

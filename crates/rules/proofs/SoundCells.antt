@@ -1,18 +1,18 @@
 -- Laws of soundness: what it says of a cell, and that each put with the right number keeps it. Assumes nothing.
-use Prim.Native.Nat.{ℕ, zero, suc, _+_, _*_, _/_, _%_, _≤_, _<_}
-use mathlib.Core.Path.{_≡_, refl, sym, ap, _∙_, subst}
+use Prim.Native.Nat.{ℕ, _+_, _*_, _/_, _%_, _≤_, _<_}
+use mathlib.Core.Path.{_≡_, refl, sym, ap, subst}
 use mathlib.Core.List.{List}
 use mathlib.Core.Bool.{Bool, true, false, not, _&&_, _||_}
 use native.Mathlib.Omega.{arith}
-use lib.ListN.{length, getD, set, length-set}
+use lib.ListN.{length}
 use lib.Seq.{getD-set-other}
 use lib.Dec.{leb, ltb, eqb}
-use borrow.Author.Tests.{leb-true, ltb-true, ltb-false, eqb-true, eqb-false, le-leb, lt-ltb, eq-eqb, ne-eqb, not-false}
-use Rattle.rules.specs.Below.{every, count, lowest}
-use Rattle.rules.specs.Numbers.{Tables, N, L, firstOf, lastOf, offsetOf, markOf, entry, held, grantOf, grantEntry, targetIn, rightsIn}
+use borrow.Author.Tests.{leb-true, ltb-true, eqb-true, le-leb, lt-ltb, eq-eqb, ne-eqb, not-false}
+use Rattle.rules.specs.Below.{every, count}
+use Rattle.rules.specs.Numbers.{Tables, N, L, firstOf, lastOf, offsetOf, markOf, entry, held, grantOf, grantEntry}
 use Rattle.rules.specs.Sound.{soundGrant, holders, afterCellBefore, soundCell, soundTables, lowestUnsound}
-use Rattle.rules.specs.Instructions.{withMarks, withRights, withGrants, withMemory, putMark, putRights, putGrant, otherHolder, nobodyElse}
-use Rattle.rules.proofs.Below.{and-left, and-right, and-both, by-test, clash, every-at, every-all, count-same, count-one, lowest-all, lowest-none}
+use Rattle.rules.specs.Instructions.{withMemory, putMark, putRights, putGrant, otherHolder, nobodyElse}
+use Rattle.rules.proofs.Below.{and-left, and-right, clash, every-at, every-all, count-same, count-one, lowest-all, lowest-none}
 use Rattle.rules.proofs.Sizes.{same-cell, same-division, after-put}
 
 -- ---- what soundness says of a cell

@@ -1,6 +1,6 @@
 -- Two outcomes that one contract allows are equal: for each public function, over its contract as the source states it
 -- (`Post` is what its `ensures` says of the arguments, the result and the parameters at exit). Assumes nothing.
-use mathlib.Core.Path.{_≡_, sym, _∙_}
+use mathlib.Core.Path.{_≡_}
 use Rattle.rules.proofs.Laws.{one-outcome}
 use Rattle.rules.proofs.Registers.after_switch.Reads as after-switch-reads
 use Rattle.rules.proofs.part_of.Reads as part-of-reads

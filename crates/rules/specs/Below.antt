@@ -1,6 +1,6 @@
 -- Words for the numbers below a bound: whether every one passes a test, how many do, and which is the lowest that does.
 use Prim.Native.Nat.{ℕ, zero, suc, _+_}
-use mathlib.Core.Bool.{Bool, true, false, cond, _&&_}
+use mathlib.Core.Bool.{Bool, true, cond, _&&_}
 
 -- whether every number below n passes
 unfoldable pub every : (ℕ → Bool) → ℕ → Bool

@@ -1,12 +1,10 @@
 -- Document 01, "Bench cases": those with P, as one table. The theorem about it is in proofs/Bench.antt.
 use Prim.Native.Nat.{ℕ}
 use mathlib.Core.List.{List, [], _∷_}
-use lib.ListN.{set}
 use Rattle.rules.specs.Numbers.{Tables, tables, State, state}
 use Rattle.rules.specs.Refusals.{Outcome, accepted}
 use Rattle.rules.specs.Instructions.{withRights}
 use Rattle.rules.specs.Calls.{Action, instruction}
-use Rattle.rules.specs.declared.Registers.{Registers}
 
 -- ---- the listing before its `do` lines
 

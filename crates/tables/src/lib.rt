@@ -1,6 +1,6 @@
 // The table check: bounds, lengths and soundness of everything that is lent, before any call looks further.
 // Its one public function has no `requires`. A row of entries is passed with no early exit and with its tests
-// joined by `&` and `|`, so that the loops vectorise; the way out is at a cell.
+// joined by `&` and `|`, or counted, so that the loops vectorise; the way out is at a cell.
 ghost use mathlib.Core.Path.{_≡_};
 ghost use mathlib.Core.Bool.{true, false, not, _&&_, _||_};
 ghost use Prim.Native.Nat.{_+_, _*_, _≤_, _<_};
@@ -52,7 +52,7 @@ fn sound_grants(m: u16, row: &[u16]) -> bool
 }
 
 // Whether the `m` grants from `start` on are sound. 32 divisions are a case of their own: the compiler then knows how long
-// a row is, and makes no loop of it.
+// a row is, and may unroll it.
 fn sound_offers(m: usize, grants: &[u16], start: usize) -> bool
     requires { ⌜ (m ≤ 32) × ((start + m ≤ length (now grants)) × (length (now grants) ≤ 8192)) ⌝ }
     ensures { λ r. ⌜ r ≡ every (λ d. soundGrant m d (getD (now (grants .entry)) (start + d) 0)) m ⌝ }

@@ -160,9 +160,3 @@ module _ {l l₁ : List ℕ} {at r : ℕ} {t : List ℕ} (h : at + length t ≤ 
   put-stands =
       ap (drop at) (split ∙ append-assoc (take at l) t (drop r l))
       ∙ drop-at (take at l) (t ++ drop r l) at (length-take-le at l (omega arith))
-
--- the line that `put_row` wrote, behind what was written so far
-pub row-front : (w v : List ℕ) (k : ℕ) {l l₁ : List ℕ} {at r : ℕ} → k ≤ 5 → at + (length w + 11 * k + 1) ≤ length l →
-    Put l at (rowIn l at w v k) r l₁ → take r l₁ ≡ take at l ++ rowText w v k
-row-front w v k {l} {at = at} few room p =
-    put-front (omega (arith, row-length w v k few)) (rw (row-fits l at w v k room) at p)

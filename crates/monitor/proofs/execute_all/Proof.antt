@@ -1,12 +1,12 @@
 -- Checks 1, 2 and 3 once, and then the list, or every answer filled with their refusal.
 use borrow.Author.Needs.{needs}
 use Prim.Native.Nat.{ℕ, _≤_, _*_}
-use mathlib.Core.Path.{_≡_, ap, _∙_}
+use mathlib.Core.Path.{ap, _∙_}
 use native.Mathlib.Omega.{arith}
 use lib.ListN.{length}
 use denote.Ref.{now}
 use Rattle.rules.specs.Numbers.{State, tables, state}
-use Rattle.monitor.specs.Runs.{roomFor, afterFirst, numbersIn, valuesIn}
+use Rattle.monitor.specs.Runs.{afterFirst, numbersIn, valuesIn}
 use Rattle.monitor.proofs.Beginning.{first-begun}
 use Rattle.monitor.proofs.Running.{room-whole, room-numbers, room-values, refused-state, refused-numbers, refused-values}
 use Rattle.monitor.proofs.execute_all.Statement.{statement}

@@ -1,5 +1,4 @@
 use Prim.Native.Nat.{_≤_}
-use mathlib.Core.Path.{sym}
 use mathlib.Core.Bool.{and-true, and-false}
 use native.Mathlib.Omega.{arith}
 use borrow.Author.Tests.{le-leb, lt-leb}

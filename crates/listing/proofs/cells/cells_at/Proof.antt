@@ -4,13 +4,10 @@ use Prim.Native.Nat.{_<_}
 use Rattle.listing.specs.Lines.{field}
 use Rattle.listing.proofs.Rows.{mark-below}
 use Prim.Native.Nat.{_-_}
-use Rattle.listing.proofs.Loops.{CellsRead, cells-none, cells-more, cells-stop, cells-full}
+use Rattle.listing.proofs.Loops.{CellsRead, cells-more, cells-stop, cells-full}
 use borrow.Author.Needs.{needs}
 use Rattle.listing.proofs.cells.cells_at.Statement.{statement}
 use Rattle.listing.proofs.cells.cells_at.Tie as tie
-use Rattle.listing.proofs.cells.cells_at.Reads as reads
-use Rattle.listing.proofs.cells.cells_at.Lts as lts
-use Rattle.listing.proofs.lines.cell_row.Reads as cell-row-reads
 
 abbrev Inv-loop : tie.InvT-loop
 Inv-loop s at first₀ last₀ offset₀ marks₀ i₀ n₀ first last offset marks i n = CellsRead s at n i first last offset marks
@@ -38,8 +35,8 @@ same-length-4 c = search needs
 
 returns : tie.Need-returns Inv-loop μ-loop
 returns c =
-    let l = c .before .before .before .before .before in
-    (cells-stop (l .loop .inv) (c .before .before .before .before .loop-test .taken) _ (c .before .before .before .cell-row .ensures) (not-true _ (c .if1 .taken)), l .loop .inv .few)
+    let l = c .before .before .before .before .before .loop .inv in
+    (cells-stop l (c .before .before .before .before .loop-test .taken) _ (c .before .before .before .cell-row .ensures) (not-true _ (c .if1 .taken)), l .few)
 
 array-read-first : tie.Need-array-read-first Inv-loop μ-loop
 array-read-first c = search needs
@@ -73,8 +70,8 @@ array-read-marks c = search needs
 
 cast-marks : tie.Need-cast-marks Inv-loop μ-loop
 cast-marks c =
-    let l = c .before .before .before .before .before in
-    let below : field (c .before .before .before .cell-row .result) 3 < 2 = rw (c .before .before .before .cell-row .ensures) (mark-below _ (l .loop .i)) in
+    let r = c .before .before .before .cell-row in
+    let below : field (r .result) 3 < 2 = rw (r .ensures) (mark-below _ (c .before .before .before .before .before .loop .i)) in
     omega arith
 
 slice-write-marks : tie.Need-slice-write-marks Inv-loop μ-loop
@@ -87,7 +84,8 @@ loop-less : tie.Need-loop-less Inv-loop μ-loop
 loop-less c = search needs
 
 loop-again : tie.Need-loop-again Inv-loop μ-loop
-loop-again c = cells-more (c .before .before .before .before .before .loop .inv) (c .before .before .before .before .loop-test .taken) _ (c .before .before .before .cell-row .ensures) (not-false _ (c .if1 .left))
+loop-again c =
+    cells-more (c .before .before .before .before .before .loop .inv) (c .before .before .before .before .loop-test .taken) _ (c .before .before .before .cell-row .ensures) (not-false _ (c .if1 .left))
 
 same-length-5 : tie.Need-same-length-5 Inv-loop μ-loop
 same-length-5 c = search needs

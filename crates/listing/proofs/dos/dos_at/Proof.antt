@@ -1,21 +1,24 @@
 use native.Mathlib.Omega.{arith}
 use borrow.Author.Tests.{not-true, not-false}
-use lib.ListN.{length-set}
-use Prim.Native.Nat.{_-_}
-use lib.ListN.{length}
+use Prim.Native.Nat.{_+_, _-_, _*_, _<_}
+use lib.ListN.{length, length-set}
 use Rattle.listing.proofs.Loops.{DosRead, dos-none, do-room, dos-more, dos-stop, dos-full}
 use borrow.Author.Needs.{needs}
 use Rattle.listing.proofs.dos.dos_at.Statement.{statement}
 use Rattle.listing.proofs.dos.dos_at.Tie as tie
-use Rattle.listing.proofs.dos.dos_at.Reads as reads
-use Rattle.listing.proofs.dos.dos_at.Lts as lts
-use Rattle.listing.proofs.lines.do_row.Reads as do-row-reads
 
 abbrev Inv-loop : tie.InvT-loop
 Inv-loop s at list₀ i₀ n₀ list i n = DosRead s at n i list
 
 abbrev μ-loop : tie.MeasureT-loop
 μ-loop s at list₀ i₀ n₀ list i n = length s - n
+
+-- where a do line stands, there is room for its four numbers
+room : (c : tie.Else1 Inv-loop μ-loop) → 4 * c .before .before .before .before .before .loop .n + 3 < length (c .before .before .before .before .before .loop .list)
+room c =
+    let l = c .before .before .before .before .before in
+    let few = do-room (l .before .before .before .pre .0) (l .loop .inv) _ (c .before .before .before .do-row .ensures) (not-false _ (c .if1 .left)) in
+    omega (arith, few .0, l .loop .inv .long)
 
 loop-holds : tie.Need-loop-holds Inv-loop μ-loop
 loop-holds c = dos-none _ _ _ (c .before .before .pre .1)
@@ -28,7 +31,10 @@ same-length c = search needs
 
 returns : tie.Need-returns Inv-loop μ-loop
 returns c =
-    (dos-stop (c .before .before .before .before .before .before .before .before .pre .0) (c .before .before .before .before .before .loop .inv) _ (c .before .before .before .do-row .ensures) (c .before .before .before .before .loop-test .taken) (not-true _ (c .if1 .taken)), c .before .before .before .before .before .loop .inv .short)
+    let l = c .before .before .before .before .before in (
+      dos-stop (l .before .before .before .pre .0) (l .loop .inv) _ (c .before .before .before .do-row .ensures) (c .before .before .before .before .loop-test .taken) (not-true _ (c .if1 .taken)),
+      l .loop .inv .short,
+    )
 
 mul-k : tie.Need-mul-k Inv-loop μ-loop
 mul-k c = search needs
@@ -40,9 +46,7 @@ mul-list : tie.Need-mul-list Inv-loop μ-loop
 mul-list c = search needs
 
 slice-write-list : tie.Need-slice-write-list Inv-loop μ-loop
-slice-write-list c =
-    let room = do-room (c .before .before .before .before .before .before .before .before .pre .0) (c .before .before .before .before .before .loop .inv) _ (c .before .before .before .do-row .ensures) (not-false _ (c .if1 .left)) in
-    omega (arith, room .0, c .before .before .before .before .before .loop .inv .long)
+slice-write-list c = omega (arith, room c)
 
 array-read-list-2 : tie.Need-array-read-list-2 Inv-loop μ-loop
 array-read-list-2 c = search needs
@@ -54,10 +58,7 @@ mul-list-2 : tie.Need-mul-list-2 Inv-loop μ-loop
 mul-list-2 c = search needs
 
 slice-write-list-2 : tie.Need-slice-write-list-2 Inv-loop μ-loop
-slice-write-list-2 c =
-    simp length-set
-    (let room = do-room (c .before .before .before .before .before .before .before .before .pre .0) (c .before .before .before .before .before .loop .inv) _ (c .before .before .before .do-row .ensures) (not-false _ (c .if1 .left)) in
-    omega (arith, room .0, c .before .before .before .before .before .loop .inv .long))
+slice-write-list-2 c = simp length-set (omega (arith, room c))
 
 array-read-list-3 : tie.Need-array-read-list-3 Inv-loop μ-loop
 array-read-list-3 c = search needs
@@ -69,10 +70,7 @@ mul-list-3 : tie.Need-mul-list-3 Inv-loop μ-loop
 mul-list-3 c = search needs
 
 slice-write-list-3 : tie.Need-slice-write-list-3 Inv-loop μ-loop
-slice-write-list-3 c =
-    simp length-set
-    (let room = do-room (c .before .before .before .before .before .before .before .before .pre .0) (c .before .before .before .before .before .loop .inv) _ (c .before .before .before .do-row .ensures) (not-false _ (c .if1 .left)) in
-    omega (arith, room .0, c .before .before .before .before .before .loop .inv .long))
+slice-write-list-3 c = simp length-set (omega (arith, room c))
 
 array-read-list-4 : tie.Need-array-read-list-4 Inv-loop μ-loop
 array-read-list-4 c = search needs
@@ -84,10 +82,7 @@ mul-list-4 : tie.Need-mul-list-4 Inv-loop μ-loop
 mul-list-4 c = search needs
 
 slice-write-list-4 : tie.Need-slice-write-list-4 Inv-loop μ-loop
-slice-write-list-4 c =
-    simp length-set
-    (let room = do-room (c .before .before .before .before .before .before .before .before .pre .0) (c .before .before .before .before .before .loop .inv) _ (c .before .before .before .do-row .ensures) (not-false _ (c .if1 .left)) in
-    omega (arith, room .0, c .before .before .before .before .before .loop .inv .long))
+slice-write-list-4 c = simp length-set (room c)
 
 add-n : tie.Need-add-n Inv-loop μ-loop
 add-n c = search needs
@@ -97,7 +92,8 @@ loop-less c = search needs
 
 loop-again : tie.Need-loop-again Inv-loop μ-loop
 loop-again c =
-    dos-more (c .before .before .before .before .before .before .before .before .pre .0) (c .before .before .before .before .before .loop .inv) _ (c .before .before .before .do-row .ensures) (c .before .before .before .before .loop-test .taken) (not-false _ (c .if1 .left))
+    let l = c .before .before .before .before .before in
+    dos-more (l .before .before .before .pre .0) (l .loop .inv) _ (c .before .before .before .do-row .ensures) (c .before .before .before .before .loop-test .taken) (not-false _ (c .if1 .left))
 
 same-length-2 : tie.Need-same-length-2 Inv-loop μ-loop
 same-length-2 c = search needs

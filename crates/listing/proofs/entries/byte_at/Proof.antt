@@ -5,9 +5,6 @@ use Rattle.listing.proofs.Rows.{byte-below}
 use borrow.Author.Needs.{needs}
 use Rattle.listing.proofs.entries.byte_at.Statement.{statement}
 use Rattle.listing.proofs.entries.byte_at.Tie as tie
-use Rattle.listing.proofs.entries.byte_at.Reads as reads
-use Rattle.listing.proofs.entries.byte_at.Lts as lts
-use Rattle.listing.proofs.lines.byte_row.Reads as byte-row-reads
 
 byte-row-requires : tie.Need-byte-row-requires
 byte-row-requires c κs = search needs

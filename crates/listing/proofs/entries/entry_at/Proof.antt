@@ -1,10 +1,6 @@
 use borrow.Author.Needs.{needs}
 use Rattle.listing.proofs.entries.entry_at.Statement.{statement}
 use Rattle.listing.proofs.entries.entry_at.Tie as tie
-use Rattle.listing.proofs.entries.entry_at.Reads as reads
-use Rattle.listing.proofs.entries.entry_at.Lts as lts
-use Rattle.listing.proofs.entries.byte_at.Reads as byte-at-reads
-use Rattle.listing.proofs.entries.right_at.Reads as right-at-reads
 
 enum-known-kind : tie.Need-enum-known-kind
 enum-known-kind c = search needs

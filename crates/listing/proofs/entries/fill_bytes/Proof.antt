@@ -1,6 +1,6 @@
 use native.Mathlib.Omega.{arith}
 use borrow.Author.Tests.{not-true, not-false}
-use mathlib.Core.Path.{_≡_, refl, sym, ap, _∙_}
+use mathlib.Core.Path.{_≡_, sym, ap, _∙_}
 use Prim.Native.Nat.{_<_}
 use mathlib.Core.Bool.{true}
 use Rattle.text.proofs.Cases.{and-left}
@@ -13,9 +13,6 @@ use Rattle.listing.proofs.Loops.{EntriesRead, entries-none, entries-mor
 use borrow.Author.Needs.{needs}
 use Rattle.listing.proofs.entries.fill_bytes.Statement.{statement}
 use Rattle.listing.proofs.entries.fill_bytes.Tie as tie
-use Rattle.listing.proofs.entries.fill_bytes.Reads as reads
-use Rattle.listing.proofs.entries.fill_bytes.Lts as lts
-use Rattle.listing.proofs.entries.entry_at.Reads as entry-at-reads
 
 abbrev Inv-loop : tie.InvT-loop
 Inv-loop s at kind list₀ i₀ least₀ n₀ list i least n = EntriesRead (lineOf kind s) (length s) at list₀ n i least list
@@ -48,7 +45,9 @@ returns c =
 
 cast-list : tie.Need-cast-list Inv-loop μ-loop
 cast-list c =
-    let below : c .before .before .before .entry-at .result .value < 256 = rw (c .before .before .before .entry-at .ensures) (kind-byte (c .before .before .before .before .before .before .before .before .args .kind) (c .before .before .before .before .before .before .before .before .args .s .now) (c .before .before .before .before .before .loop .i)) in
+    let a = c .before .before .before .before .before .before .before .before .args in
+    let e = c .before .before .before .entry-at in
+    let below : e .result .value < 256 = rw (e .ensures) (kind-byte (a .kind) (a .s .now) (c .before .before .before .before .before .loop .i)) in
     omega arith
 
 slice-write-list : tie.Need-slice-write-list Inv-loop μ-loop

@@ -1,13 +1,18 @@
 use native.Mathlib.Omega.{arith}
-use Prim.Native.Nat.{_<_}
+use Prim.Native.Nat.{_+_, _*_, _≤_, _<_}
 use Rattle.listing.specs.Lines.{field, rightAt}
 use Rattle.listing.proofs.Rows.{FewNamed, right-few, product-small, rights-below}
 use borrow.Author.Needs.{needs}
 use Rattle.listing.proofs.entries.right_at.Statement.{statement}
 use Rattle.listing.proofs.entries.right_at.Tie as tie
-use Rattle.listing.proofs.entries.right_at.Reads as reads
-use Rattle.listing.proofs.entries.right_at.Lts as lts
-use Rattle.listing.proofs.lines.right_row.Reads as right-row-reads
+
+-- cell and division are so small that the entry's number fits
+small : (c : tie.After-v) → field (c .before .right-row .result) 0 * c .before .before .before .args .m + field (c .before .right-row .result) 1 ≤ 8224
+small c =
+    let asked = c .before .before .before .pre in
+    let r = c .before .right-row in
+    let few : FewNamed (r .result) = rw (r .ensures) (right-few _ _ _ _ (asked .0) (asked .1)) in
+    omega (arith, few .1, product-small (field (r .result) 0) (c .before .before .before .args .m) (few .0) (asked .1))
 
 right-row-requires : tie.Need-right-row-requires
 right-row-requires c κs = search needs
@@ -19,9 +24,7 @@ cast-t10 : tie.Need-cast-t10
 cast-t10 c = search needs
 
 mul-t12 : tie.Need-mul-t12
-mul-t12 c =
-    let few : FewNamed (c .before .right-row .result) = rw (c .before .right-row .ensures) (right-few _ _ _ _ (c .before .before .before .pre .0) (c .before .before .before .pre .1)) in
-    omega (arith, few .1, product-small (field (c .before .right-row .result) 0) (c .before .before .before .args .m) (few .0) (c .before .before .before .pre .1))
+mul-t12 c = omega (arith, small c)
 
 array-read-t15 : tie.Need-array-read-t15
 array-read-t15 c = search needs
@@ -30,9 +33,7 @@ cast-t16 : tie.Need-cast-t16
 cast-t16 c = search needs
 
 add-t17 : tie.Need-add-t17
-add-t17 c =
-    let few : FewNamed (c .before .right-row .result) = rw (c .before .right-row .ensures) (right-few _ _ _ _ (c .before .before .before .pre .0) (c .before .before .before .pre .1)) in
-    omega (arith, few .1, product-small (field (c .before .right-row .result) 0) (c .before .before .before .args .m) (few .0) (c .before .before .before .pre .1))
+add-t17 c = omega (arith, small c)
 
 array-read-t20 : tie.Need-array-read-t20
 array-read-t20 c = search needs

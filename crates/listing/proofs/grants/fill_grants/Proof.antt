@@ -1,6 +1,6 @@
 use native.Mathlib.Omega.{arith}
 use borrow.Author.Tests.{not-true, not-false}
-use mathlib.Core.Path.{_≡_, refl, sym, ap, _∙_}
+use mathlib.Core.Path.{_≡_, sym, ap, _∙_}
 use Prim.Native.Nat.{_*_, _<_}
 use mathlib.Core.Bool.{true}
 use Rattle.text.proofs.Cases.{and-left}
@@ -13,9 +13,6 @@ use Rattle.listing.proofs.Loops.{EntriesRead, entries-none, entries-mor
 use borrow.Author.Needs.{needs}
 use Rattle.listing.proofs.grants.fill_grants.Statement.{statement}
 use Rattle.listing.proofs.grants.fill_grants.Tie as tie
-use Rattle.listing.proofs.grants.fill_grants.Reads as reads
-use Rattle.listing.proofs.grants.fill_grants.Lts as lts
-use Rattle.listing.proofs.grants.grant_at.Reads as grant-at-reads
 
 abbrev Inv-loop : tie.InvT-loop
 Inv-loop s at n m list₀ i₀ least₀ k₀ list i least k = EntriesRead (grantAt n m s) (length s) at list₀ k i least list

@@ -1,13 +1,27 @@
 use native.Mathlib.Omega.{arith}
-use Prim.Native.Nat.{_<_}
+use Prim.Native.Nat.{_+_, _*_, _≤_, _<_}
 use Rattle.listing.specs.Lines.{field, grantAt}
 use Rattle.listing.proofs.Rows.{FewNamed, grant-few, product-small, target-below, grant-below}
 use borrow.Author.Needs.{needs}
 use Rattle.listing.proofs.grants.grant_at.Statement.{statement}
 use Rattle.listing.proofs.grants.grant_at.Tie as tie
-use Rattle.listing.proofs.grants.grant_at.Reads as reads
-use Rattle.listing.proofs.grants.grant_at.Lts as lts
-use Rattle.listing.proofs.lines.grant_row.Reads as grant-row-reads
+
+-- cell and division are so small that the entry's number fits
+small : (c : tie.After-v) → field (c .before .grant-row .result) 0 * c .before .before .before .args .m + field (c .before .grant-row .result) 1 ≤ 8224
+small c =
+    let asked = c .before .before .before .pre in
+    let r = c .before .grant-row in
+    let few : FewNamed (r .result) = rw (r .ensures) (grant-few _ _ _ _ (asked .0) (asked .2)) in
+    omega (arith, few .1, product-small (field (r .result) 0) (c .before .before .before .args .m) (few .0) (asked .2))
+
+-- target and rights are so small that the entry fits
+narrow : (c : tie.After-v) → field (c .before .grant-row .result) 2 + 256 * field (c .before .grant-row .result) 3 ≤ 2047
+narrow c =
+    let asked = c .before .before .before .pre in
+    let r = c .before .grant-row in
+    let target : field (r .result) 2 < c .before .before .before .args .m = rw (r .ensures) (target-below _ _ _ _ (asked .1)) in
+    let rights : field (r .result) 3 < 8 = rw (r .ensures) (grant-below _ _ _ _) in
+    omega (arith, asked .2)
 
 grant-row-requires : tie.Need-grant-row-requires
 grant-row-requires c κs = search needs
@@ -19,9 +33,7 @@ cast-t10 : tie.Need-cast-t10
 cast-t10 c = search needs
 
 mul-t12 : tie.Need-mul-t12
-mul-t12 c =
-    let few : FewNamed (c .before .grant-row .result) = rw (c .before .grant-row .ensures) (grant-few _ _ _ _ (c .before .before .before .pre .0) (c .before .before .before .pre .2)) in
-    omega (arith, few .1, product-small (field (c .before .grant-row .result) 0) (c .before .before .before .args .m) (few .0) (c .before .before .before .pre .2))
+mul-t12 c = omega (arith, small c)
 
 array-read-t15 : tie.Need-array-read-t15
 array-read-t15 c = search needs
@@ -30,9 +42,7 @@ cast-t16 : tie.Need-cast-t16
 cast-t16 c = search needs
 
 add-t17 : tie.Need-add-t17
-add-t17 c =
-    let few : FewNamed (c .before .grant-row .result) = rw (c .before .grant-row .ensures) (grant-few _ _ _ _ (c .before .before .before .pre .0) (c .before .before .before .pre .2)) in
-    omega (arith, few .1, product-small (field (c .before .grant-row .result) 0) (c .before .before .before .args .m) (few .0) (c .before .before .before .pre .2))
+add-t17 c = omega (arith, small c)
 
 array-read-t20 : tie.Need-array-read-t20
 array-read-t20 c = search needs
@@ -41,22 +51,13 @@ array-read-t23 : tie.Need-array-read-t23
 array-read-t23 c = search needs
 
 mul-t24 : tie.Need-mul-t24
-mul-t24 c =
-    let target : field (c .before .grant-row .result) 2 < c .before .before .before .args .m = rw (c .before .grant-row .ensures) (target-below _ _ _ _ (c .before .before .before .pre .1)) in
-    let rights : field (c .before .grant-row .result) 3 < 8 = rw (c .before .grant-row .ensures) (grant-below _ _ _ _) in
-    omega (arith, c .before .before .before .pre .2)
+mul-t24 c = omega (arith, narrow c)
 
 add-t25 : tie.Need-add-t25
-add-t25 c =
-    let target : field (c .before .grant-row .result) 2 < c .before .before .before .args .m = rw (c .before .grant-row .ensures) (target-below _ _ _ _ (c .before .before .before .pre .1)) in
-    let rights : field (c .before .grant-row .result) 3 < 8 = rw (c .before .grant-row .ensures) (grant-below _ _ _ _) in
-    omega (arith, c .before .before .before .pre .2)
+add-t25 c = omega (arith, narrow c)
 
 cast-t26 : tie.Need-cast-t26
-cast-t26 c =
-    let target : field (c .before .grant-row .result) 2 < c .before .before .before .args .m = rw (c .before .grant-row .ensures) (target-below _ _ _ _ (c .before .before .before .pre .1)) in
-    let rights : field (c .before .grant-row .result) 3 < 8 = rw (c .before .grant-row .ensures) (grant-below _ _ _ _) in
-    omega (arith, c .before .before .before .pre .2)
+cast-t26 c = omega (arith, narrow c)
 
 returns : tie.Need-returns
 unfolding grantAt

@@ -2,10 +2,6 @@ use Rattle.listing.specs.Lines.{cellRow}
 use borrow.Author.Needs.{needs}
 use Rattle.listing.proofs.lines.cell_row.Statement.{statement}
 use Rattle.listing.proofs.lines.cell_row.Tie as tie
-use Rattle.listing.proofs.lines.cell_row.Reads as reads
-use Rattle.listing.proofs.lines.cell_row.Lts as lts
-use Rattle.text.proofs.row_at.Reads as row-at-reads
-use Rattle.text.proofs.within.Reads as within-reads
 
 slice-aggregate-row-at : tie.Need-slice-aggregate-row-at
 slice-aggregate-row-at c = search needs

@@ -2,9 +2,6 @@ use Rattle.listing.specs.Lines.{doRow}
 use borrow.Author.Needs.{needs}
 use Rattle.listing.proofs.lines.do_row.Statement.{statement}
 use Rattle.listing.proofs.lines.do_row.Tie as tie
-use Rattle.listing.proofs.lines.do_row.Reads as reads
-use Rattle.listing.proofs.lines.do_row.Lts as lts
-use Rattle.text.proofs.row_at.Reads as row-at-reads
 
 slice-aggregate-row-at : tie.Need-slice-aggregate-row-at
 slice-aggregate-row-at c = search needs

@@ -8,9 +8,6 @@ use Rattle.listing.specs.Reading.{answerOf}
 use borrow.Author.Needs.{needs}
 use Rattle.listing.proofs.put.put_answers.Statement.{statement}
 use Rattle.listing.proofs.put.put_answers.Tie as tie
-use Rattle.listing.proofs.put.put_answers.Reads as reads
-use Rattle.listing.proofs.put.put_answers.Lts as lts
-use Rattle.text.proofs.put_row.Reads as put-row-reads
 
 abbrev Inv-loop : tie.InvT-loop
 Inv-loop out₀ at numbers values count i₀ k₀ t8 out i k = Lined (answerOf numbers values) 34 count at out₀ out i k

@@ -6,9 +6,6 @@ use Rattle.listing.proofs.Written.{row-put, row-short}
 use borrow.Author.Needs.{needs}
 use Rattle.listing.proofs.put.put_bad.Statement.{statement}
 use Rattle.listing.proofs.put.put_bad.Tie as tie
-use Rattle.listing.proofs.put.put_bad.Reads as reads
-use Rattle.listing.proofs.put.put_bad.Lts as lts
-use Rattle.text.proofs.put_row.Reads as put-row-reads
 
 slice-aggregate-put-row : tie.Need-slice-aggregate-put-row
 slice-aggregate-put-row c = search needs

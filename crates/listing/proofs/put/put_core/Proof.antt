@@ -7,9 +7,6 @@ use Rattle.listing.specs.Output.{coreLine}
 use borrow.Author.Needs.{needs}
 use Rattle.listing.proofs.put.put_core.Statement.{statement}
 use Rattle.listing.proofs.put.put_core.Tie as tie
-use Rattle.listing.proofs.put.put_core.Reads as reads
-use Rattle.listing.proofs.put.put_core.Lts as lts
-use Rattle.text.proofs.put_row.Reads as put-row-reads
 
 slice-aggregate-put-row : tie.Need-slice-aggregate-put-row
 slice-aggregate-put-row c = search needs

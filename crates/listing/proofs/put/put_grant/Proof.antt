@@ -1,17 +1,20 @@
-use Prim.Native.Nat.{_+_, _≤_}
+use Prim.Native.Nat.{_+_, _/_, _%_, _≤_, _<_}
 use lib.ListN.{length}
 use native.Mathlib.Omega.{arith}
-use native.Mathlib.Nat.{div-le-self, mod-le, mod-lt}
+use native.Mathlib.Nat.{div-le-self, mod-lt}
 use Rattle.listing.specs.Words.{grantWord}
 use Rattle.text.proofs.Writing.{put-nothing}
 use Rattle.listing.proofs.Written.{row-put, grant-short, no-grant, some-grant}
 use borrow.Author.Needs.{needs}
 use Rattle.listing.proofs.put.put_grant.Statement.{statement}
 use Rattle.listing.proofs.put.put_grant.Tie as tie
-use Rattle.listing.proofs.put.put_grant.Reads as reads
-use Rattle.listing.proofs.put.put_grant.Lts as lts
-use Rattle.listing.proofs.put.wide_entry.Reads as wide-entry-reads
-use Rattle.text.proofs.put_row.Reads as put-row-reads
+
+-- a cell's number has at most four digits, and a division's two
+cell-small : (c : tie.Start) → c .args .e / c .args .m < 10000
+cell-small c = omega (arith, div-le-self (c .args .e) (c .args .m), c .pre .2)
+
+division-small : (c : tie.Start) → c .args .e % c .args .m < 100
+division-small c = omega (arith, mod-lt (c .args .e) (c .pre .0), c .pre .1)
 
 mul-wide-entry : tie.Need-mul-wide-entry
 mul-wide-entry c = search needs
@@ -34,13 +37,13 @@ div-t8 : tie.Need-div-t8
 div-t8 c = search needs
 
 cast-t16 : tie.Need-cast-t16
-cast-t16 c = omega (arith, div-le-self (c .before .before .before .before .before .before .before .args .e) (c .before .before .before .before .before .before .before .args .m), c .before .before .before .before .before .before .before .pre .2)
+cast-t16 c = omega (arith, cell-small (c .before .before .before .before .before .before .before))
 
 rem-t17 : tie.Need-rem-t17
 rem-t17 c = search needs
 
 cast-t18 : tie.Need-cast-t18
-cast-t18 c = omega (arith, mod-le (c .before .before .before .before .before .before .before .args .e) (c .before .before .before .before .before .before .before .args .m), c .before .before .before .before .before .before .before .pre .2)
+cast-t18 c = omega (arith, division-small (c .before .before .before .before .before .before .before))
 
 put-row-requires : tie.Need-put-row-requires
 put-row-requires c κs = search needs
@@ -50,12 +53,12 @@ same-length c = search needs
 
 returns-2 : tie.Need-returns-2
 returns-2 c =
+    let h = c .before .before .before .before .before .before .wide-entry in
     let a = c .before .before .before .before .before .before .before .before .before .before in
-    let h = c .before .before .before .before .before .before .wide-entry .result in
     let room : a .args .at + 50 ≤ length (a .args .out .now) = a .pre .4 in
     let p = row-put grantWord _ 4 (omega arith) room (c .before .before .put-row .ensures .0) in (
-      rw (some-grant (a .args .m) (a .args .grants .now) (a .args .e) _ (c .before .before .before .before .before .before .wide-entry .ensures .0) (c .before .before .before .before .before .if1 .left)) p,
-      grant-short _ _ _ _ (omega (arith, div-le-self (a .args .e) (a .args .m), a .pre .2)) (omega (arith, mod-lt (a .args .e) (a .pre .0), a .pre .1)) (omega (arith, c .before .before .before .before .before .before .wide-entry .ensures .1)) (omega (arith, c .before .before .before .before .before .before .wide-entry .ensures .1)) p,
+      rw (some-grant (a .args .m) (a .args .grants .now) (a .args .e) _ (h .ensures .0) (c .before .before .before .before .before .if1 .left)) p,
+      grant-short _ _ _ _ (cell-small a) (division-small a) (omega (arith, h .ensures .1)) (omega (arith, h .ensures .1)) p,
     )
 
 pub put-grant-spec : {M : Type 1} → statement M

@@ -6,9 +6,6 @@ use Rattle.listing.specs.Output.{grantLine}
 use borrow.Author.Needs.{needs}
 use Rattle.listing.proofs.put.put_grants.Statement.{statement}
 use Rattle.listing.proofs.put.put_grants.Tie as tie
-use Rattle.listing.proofs.put.put_grants.Reads as reads
-use Rattle.listing.proofs.put.put_grants.Lts as lts
-use Rattle.listing.proofs.put.put_grant.Reads as put-grant-reads
 
 abbrev Inv-loop : tie.InvT-loop
 Inv-loop out₀ at m grants i₀ e₀ out i e = Lined (grantLine m grants) 22 (length grants) at out₀ out i e
@@ -33,7 +30,9 @@ loop-less : tie.Need-loop-less Inv-loop μ-loop
 loop-less c = search needs
 
 loop-again : tie.Need-loop-again Inv-loop μ-loop
-loop-again c = lined-more (c .before .before .before .before .before .loop .inv) (c .before .before .before .before .loop-test .taken) (c .before .before .put-grant .ensures .0) (c .before .before .put-grant .ensures .1)
+loop-again c =
+    let put = c .before .before .put-grant in
+    lined-more (c .before .before .before .before .before .loop .inv) (c .before .before .before .before .loop-test .taken) (put .ensures .0) (put .ensures .1)
 
 same-length : tie.Need-same-length Inv-loop μ-loop
 same-length c = search needs

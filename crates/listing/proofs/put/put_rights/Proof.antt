@@ -6,9 +6,6 @@ use Rattle.listing.specs.Output.{rightLine}
 use borrow.Author.Needs.{needs}
 use Rattle.listing.proofs.put.put_rights.Statement.{statement}
 use Rattle.listing.proofs.put.put_rights.Tie as tie
-use Rattle.listing.proofs.put.put_rights.Reads as reads
-use Rattle.listing.proofs.put.put_rights.Lts as lts
-use Rattle.listing.proofs.put.put_right.Reads as put-right-reads
 
 abbrev Inv-loop : tie.InvT-loop
 Inv-loop out₀ at m rights i₀ e₀ out i e = Lined (rightLine m rights) 18 (length rights) at out₀ out i e
@@ -33,7 +30,9 @@ loop-less : tie.Need-loop-less Inv-loop μ-loop
 loop-less c = search needs
 
 loop-again : tie.Need-loop-again Inv-loop μ-loop
-loop-again c = lined-more (c .before .before .before .before .before .loop .inv) (c .before .before .before .before .loop-test .taken) (c .before .before .put-right .ensures .0) (c .before .before .put-right .ensures .1)
+loop-again c =
+    let put = c .before .before .put-right in
+    lined-more (c .before .before .before .before .before .loop .inv) (c .before .before .before .before .loop-test .taken) (put .ensures .0) (put .ensures .1)
 
 same-length : tie.Need-same-length Inv-loop μ-loop
 same-length c = search needs

@@ -4,11 +4,6 @@ use Rattle.text.proofs.Writing.{put-then}
 use borrow.Author.Needs.{needs}
 use Rattle.listing.proofs.put.put_state.Statement.{statement}
 use Rattle.listing.proofs.put.put_state.Tie as tie
-use Rattle.listing.proofs.put.put_state.Reads as reads
-use Rattle.listing.proofs.put.put_state.Lts as lts
-use Rattle.listing.proofs.put.put_core.Reads as put-core-reads
-use Rattle.listing.proofs.put.put_grants.Reads as put-grants-reads
-use Rattle.listing.proofs.put.put_rights.Reads as put-rights-reads
 
 put-core-requires : tie.Need-put-core-requires
 put-core-requires c κs = search needs

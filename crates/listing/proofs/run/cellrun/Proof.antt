@@ -9,13 +9,6 @@ use Rattle.listing.proofs.Whole.{ends-inside, nothing-written, text-lon
 use borrow.Author.Needs.{needs}
 use Rattle.listing.proofs.run.cellrun.Statement.{statement}
 use Rattle.listing.proofs.run.cellrun.Tie as tie
-use Rattle.listing.proofs.run.cellrun.Reads as reads
-use Rattle.listing.proofs.run.cellrun.Lts as lts
-use Rattle.listing.proofs.lines.head_row.Reads as head-row-reads
-use Rattle.listing.proofs.lines.size_row.Reads as size-row-reads
-use Rattle.listing.proofs.put.put_bad.Reads as put-bad-reads
-use Rattle.listing.proofs.put.put_head.Reads as put-head-reads
-use Rattle.listing.proofs.run.run_cells.Reads as run-cells-reads
 
 returns : tie.Need-returns
 returns c = (rw (← nothing-written _ _ (c .if1 .taken)) (put-nothing _ 0), (omega arith, sym (length-take 0 (c .before .before .before .args .out .now))))
@@ -31,8 +24,10 @@ same-length c = search needs
 
 returns-2 : tie.Need-returns-2
 returns-2 c =
-    ends-inside (c .before .before .before .before .before .before .before .before .before .if1 .left) (omega (arith, c .before .before .put-bad .ensures .1, c .before .before .before .before .before .before .before .put-head .ensures .1))
-    (rw (← text-long _ _ (c .before .before .before .before .before .before .before .before .before .if1 .left) (c .before .before .before .before .if2 .taken)) (put-then (c .before .before .before .before .before .before .before .put-head .ensures .0) (c .before .before .put-bad .ensures .0)))
+    let at = c .before .before .before .before .before .before .before in
+    let bad = c .before .before .put-bad in
+    ends-inside (at .before .before .if1 .left) (omega (arith, bad .ensures .1, at .put-head .ensures .1))
+    (rw (← text-long _ _ (at .before .before .if1 .left) (c .before .before .before .before .if2 .taken)) (put-then (at .put-head .ensures .0) (bad .ensures .0)))
 
 head-row-requires : tie.Need-head-row-requires
 head-row-requires c κs = search needs
@@ -45,8 +40,11 @@ same-length-2 c = search needs
 
 returns-3 : tie.Need-returns-3
 returns-3 c =
-    ends-inside (c .before .before .before .before .before .before .before .before .before .before .before .before .if1 .left) (omega (arith, c .before .before .put-bad2 .ensures .1, c .before .before .before .before .before .before .before .before .before .before .put-head .ensures .1))
-    (rw (← head-wrong _ _ (c .before .before .before .before .before .before .before .before .before .before .before .before .if1 .left) (c .before .before .before .before .before .before .before .if2 .left) _ (c .before .before .before .before .before .before .head-row .ensures) (not-true _ (c .before .before .before .before .if3 .taken))) (put-then (c .before .before .before .before .before .before .before .before .before .before .put-head .ensures .0) (c .before .before .put-bad2 .ensures .0)))
+    let head = c .before .before .before .before .before .before in
+    let at = head .before .before .before .before in
+    let bad = c .before .before .put-bad2 in
+    ends-inside (at .before .before .if1 .left) (omega (arith, bad .ensures .1, at .put-head .ensures .1))
+    (rw (← head-wrong _ _ (at .before .before .if1 .left) (head .before .if2 .left) _ (head .head-row .ensures) (not-true _ (c .before .before .before .before .if3 .taken))) (put-then (at .put-head .ensures .0) (bad .ensures .0)))
 
 size-row-requires : tie.Need-size-row-requires
 size-row-requires c κs = search needs
@@ -59,9 +57,13 @@ same-length-3 c = search needs
 
 returns-4 : tie.Need-returns-4
 returns-4 c =
-    ends-inside (c .before .before .before .before .before .before .before .before .before .before .before .before .before .before .before .before .if1 .left) (omega (arith, c .before .before .put-bad3 .ensures .1, c .before .before .before .before .before .before .before .before .before .before .before .before .before .before .put-head .ensures .1))
-    (rw (← size-wrong _ _ (c .before .before .before .before .before .before .before .before .before .before .before .before .before .before .before .before .if1 .left) (c .before .before .before .before .before .before .before .before .before .before .before .if2 .left) _ (c .before .before .before .before .before .before .before .before .before .before .head-row .ensures) (not-false _ (c .before .before .before .before .before .before .before .before .if3 .left)) _
-    (c .before .before .before .before .before .before .before .size-row .ensures) (not-true _ (c .before .before .before .before .if4 .taken))) (put-then (c .before .before .before .before .before .before .before .before .before .before .before .before .before .before .put-head .ensures .0) (c .before .before .put-bad3 .ensures .0)))
+    let size = c .before .before .before .before .before .before .before in
+    let head = size .before .before .before in
+    let at = head .before .before .before .before in
+    let bad = c .before .before .put-bad3 in
+    ends-inside (at .before .before .if1 .left) (omega (arith, bad .ensures .1, at .put-head .ensures .1))
+    (rw (← size-wrong _ _ (at .before .before .if1 .left) (head .before .if2 .left) _ (head .head-row .ensures) (not-false _ (size .before .if3 .left)) _
+    (size .size-row .ensures) (not-true _ (c .before .before .before .before .if4 .taken))) (put-then (at .put-head .ensures .0) (bad .ensures .0)))
 
 array-read-run-cells : tie.Need-array-read-run-cells
 array-read-run-cells c = search needs
@@ -71,14 +73,16 @@ array-read-run-cells-2 c = search needs
 
 run-cells-requires : tie.Need-run-cells-requires
 run-cells-requires c κs =
-    let e = c .before .before .before .before .size-row .ensures in
-    let few = size-divisions _ _ (ap (λ (r : Row). r .ok) (sym e) ∙ not-false _ (c .before .if4 .left)) in
-    let p = c .before .before .before .before .before .before .before .before .before .before .before .put-head in (
+    let size = c .before .before .before .before in
+    let head = size .before .before .before in
+    let at = head .before .before .before .before in
+    let e = size .size-row .ensures in
+    let few = size-divisions _ _ (ap (λ (r : Row). r .ok) (sym e) ∙ not-false _ (c .before .if4 .left)) in (
       rw e (few .0),
       rw e (few .1),
       rw e (size-bytes _ _),
-      omega (arith, c .before .before .before .before .before .before .before .before .if2 .left),
-      record { head = p .ensures .1; room = omega (arith, c .before .before .before .before .before .before .before .before .before .before .before .before .before .if1 .left, p .kept .0) },
+      omega (arith, head .before .if2 .left),
+      record { head = at .put-head .ensures .1; room = omega (arith, at .before .before .if1 .left, at .put-head .kept .0) },
     )
 
 same-length-4 : tie.Need-same-length-4
@@ -86,9 +90,13 @@ same-length-4 c = search needs
 
 returns-5 : tie.Need-returns-5
 returns-5 c =
-    ends-inside (c .before .before .before .before .before .before .before .before .before .before .before .before .before .before .before .before .if1 .left) (c .before .before .run-cells .ensures .1)
-    (rw (← size-right _ _ (c .before .before .before .before .before .before .before .before .before .before .before .before .before .before .before .before .if1 .left) (c .before .before .before .before .before .before .before .before .before .before .before .if2 .left) _ (c .before .before .before .before .before .before .before .before .before .before .head-row .ensures) (not-false _ (c .before .before .before .before .before .before .before .before .if3 .left)) _
-    (c .before .before .before .before .before .before .before .size-row .ensures) (not-false _ (c .before .before .before .before .if4 .left))) (put-then (c .before .before .before .before .before .before .before .before .before .before .before .before .before .before .put-head .ensures .0) (c .before .before .run-cells .ensures .0)))
+    let size = c .before .before .before .before .before .before .before in
+    let head = size .before .before .before in
+    let at = head .before .before .before .before in
+    let rest = c .before .before .run-cells in
+    ends-inside (at .before .before .if1 .left) (rest .ensures .1)
+    (rw (← size-right _ _ (at .before .before .if1 .left) (head .before .if2 .left) _ (head .head-row .ensures) (not-false _ (size .before .if3 .left)) _
+    (size .size-row .ensures) (not-false _ (c .before .before .before .before .if4 .left))) (put-then (at .put-head .ensures .0) (rest .ensures .0)))
 
 pub cellrun-spec : {M : Type 1} → statement M
 cellrun-spec =

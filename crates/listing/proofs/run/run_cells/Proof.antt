@@ -8,17 +8,14 @@ use Rattle.listing.proofs.Whole.{zeros-part, part-long}
 use borrow.Author.Needs.{needs}
 use Rattle.listing.proofs.run.run_cells.Statement.{statement}
 use Rattle.listing.proofs.run.run_cells.Tie as tie
-use Rattle.listing.proofs.run.run_cells.Reads as reads
-use Rattle.listing.proofs.run.run_cells.Lts as lts
-use Rattle.listing.proofs.cells.cells_at.Reads as cells-at-reads
-use Rattle.listing.proofs.run.no_bytes.Reads as no-bytes-reads
-use Rattle.listing.proofs.run.no_grants.Reads as no-grants-reads
-use Rattle.listing.proofs.run.no_rights.Reads as no-rights-reads
-use Rattle.listing.proofs.run.run_rights.Reads as run-rights-reads
+
+-- the start, from where the cell lines were read
+abbrev start : tie.After-cells-at → tie.Start
+start c = c .before .before .before .before .before .before .before .before .before .before
 
 -- as many entries as there are cells and divisions
-entries : (c : tie.After-cells-at) → c .cells-at .result .count * c .before .before .before .before .before .before .before .before .before .before .args .m ≤ 8192
-entries c = product-small _ _ (c .cells-at .ensures .1) (c .before .before .before .before .before .before .before .before .before .before .pre .1)
+entries : (c : tie.After-cells-at) → c .cells-at .result .count * start c .args .m ≤ 8192
+entries c = product-small _ _ (c .cells-at .ensures .1) (start c .pre .1)
 
 no-rights-requires : tie.Need-no-rights-requires
 no-rights-requires c κs = search needs
@@ -51,56 +48,70 @@ array-share-prefix-first : tie.Need-array-share-prefix-first
 array-share-prefix-first c = search needs
 
 slice-aggregate-run-rights : tie.Need-slice-aggregate-run-rights
-slice-aggregate-run-rights c = sym (length-take-le _ _ (omega (arith, c .before .before .before .before .before .cells-at .ensures .1, c .before .before .before .before .before .cells-at .kept .1 .1 .0)))
+slice-aggregate-run-rights c =
+    let k = c .before .before .before .before .before .cells-at in
+    sym (length-take-le _ _ (omega (arith, k .ensures .1, k .kept .1 .1 .0)))
 
 array-share-prefix-last : tie.Need-array-share-prefix-last
 array-share-prefix-last c = search needs
 
 slice-aggregate-run-rights-2 : tie.Need-slice-aggregate-run-rights-2
-slice-aggregate-run-rights-2 c = sym (length-take-le _ _ (omega (arith, c .before .before .before .before .before .before .cells-at .ensures .1, c .before .before .before .before .before .before .cells-at .kept .1 .1 .1 .0)))
+slice-aggregate-run-rights-2 c =
+    let k = c .before .before .before .before .before .before .cells-at in
+    sym (length-take-le _ _ (omega (arith, k .ensures .1, k .kept .1 .1 .1 .0)))
 
 array-share-prefix-offset : tie.Need-array-share-prefix-offset
 array-share-prefix-offset c = search needs
 
 slice-aggregate-run-rights-3 : tie.Need-slice-aggregate-run-rights-3
-slice-aggregate-run-rights-3 c = sym (length-take-le _ _ (omega (arith, c .before .before .before .before .before .before .before .cells-at .ensures .1, c .before .before .before .before .before .before .before .cells-at .kept .1 .1 .1 .1 .0)))
+slice-aggregate-run-rights-3 c =
+    let k = c .before .before .before .before .before .before .before .cells-at in
+    sym (length-take-le _ _ (omega (arith, k .ensures .1, k .kept .1 .1 .1 .1 .0)))
 
 array-borrow-prefix-marks : tie.Need-array-borrow-prefix-marks
 array-borrow-prefix-marks c = search needs
 
 slice-aggregate-run-rights-4 : tie.Need-slice-aggregate-run-rights-4
-slice-aggregate-run-rights-4 c = sym (length-take-le _ _ (omega (arith, c .before .before .before .before .before .before .before .before .cells-at .ensures .1, c .before .before .before .before .before .before .before .before .cells-at .kept .1 .1 .1 .1 .1 .0)))
+slice-aggregate-run-rights-4 c =
+    let k = c .before .before .before .before .before .before .before .before .cells-at in
+    sym (length-take-le _ _ (omega (arith, k .ensures .1, k .kept .1 .1 .1 .1 .1 .0)))
 
 array-borrow-prefix-rights : tie.Need-array-borrow-prefix-rights
 array-borrow-prefix-rights c = omega (arith, entries (c .before .before .before .before .before .before .before .before))
 
 slice-aggregate-run-rights-5 : tie.Need-slice-aggregate-run-rights-5
-slice-aggregate-run-rights-5 c = rw (c .before .before .before .before .before .before .before .before .before .before .before .before .before .before .before .before .no-rights .ensures) (part-long _ 8192 (entries (c .before .before .before .before .before .before .before .before .before)))
+slice-aggregate-run-rights-5 c =
+    let k = c .before .before .before .before .before .before .before .before .before in
+    rw (k .before .before .before .before .before .before .before .no-rights .ensures) (part-long _ 8192 (entries k))
 
 array-borrow-prefix-grants : tie.Need-array-borrow-prefix-grants
 array-borrow-prefix-grants c = omega (arith, entries (c .before .before .before .before .before .before .before .before .before))
 
 slice-aggregate-run-rights-6 : tie.Need-slice-aggregate-run-rights-6
-slice-aggregate-run-rights-6 c = rw (c .before .before .before .before .before .before .before .before .before .before .before .before .before .before .before .before .no-grants .ensures) (part-long _ 8192 (entries (c .before .before .before .before .before .before .before .before .before .before)))
+slice-aggregate-run-rights-6 c =
+    let k = c .before .before .before .before .before .before .before .before .before .before in
+    rw (k .before .before .before .before .before .before .no-grants .ensures) (part-long _ 8192 (entries k))
 
 array-borrow-prefix-memory : tie.Need-array-borrow-prefix-memory
 array-borrow-prefix-memory c = search needs
 
 slice-aggregate-run-rights-7 : tie.Need-slice-aggregate-run-rights-7
-slice-aggregate-run-rights-7 c = rw (c .before .before .before .before .before .before .before .before .before .before .before .before .before .before .before .before .no-bytes .ensures) (part-long _ 65536 (c .before .before .before .before .before .before .before .before .before .before .before .before .before .before .before .before .before .before .before .before .before .pre .2))
+slice-aggregate-run-rights-7 c =
+    let k = c .before .before .before .before .before .before .before .before .before .before .before in
+    rw (k .before .before .before .before .before .no-bytes .ensures) (part-long _ 65536 (start k .pre .2))
 
 run-rights-requires : tie.Need-run-rights-requires
 run-rights-requires c κs =
-    let a = c .before .before .before .before .before .before .before .before .before .before .before .before .before .before .before .before .before .before .before .before .before .before .pre in
     let k = c .before .before .before .before .before .before .before .before .before .before .before .before in
+    let a = start k .pre in
     let n = k .cells-at .result .count in
     let first = k .cells-at .last .1 .1 .0 in
     let long : length (take n first) ≡ n = length-take-le n first (omega (arith, k .cells-at .ensures .1, k .cells-at .kept .1 .1 .0)) in (
       (a .0, a .1, a .2, omega (arith, k .cells-at .ensures .1), a .3, a .4),
       (
-        rw (long, c .before .before .before .before .before .before .before .before .before .before .before .before .before .before .before .before .before .before .before .no-rights .ensures) (zeros-part _ 8192 (entries k)),
-        rw (long, c .before .before .before .before .before .before .before .before .before .before .before .before .before .before .before .before .before .before .no-grants .ensures) (zeros-part _ 8192 (entries k)),
-        rw (c .before .before .before .before .before .before .before .before .before .before .before .before .before .before .before .before .before .no-bytes .ensures) (zeros-part _ 65536 (a .2)),
+        rw (long, k .before .before .before .before .before .before .before .no-rights .ensures) (zeros-part _ 8192 (entries k)),
+        rw (long, k .before .before .before .before .before .before .no-grants .ensures) (zeros-part _ 8192 (entries k)),
+        rw (k .before .before .before .before .before .no-bytes .ensures) (zeros-part _ 65536 (a .2)),
       ),
     )
 
@@ -109,7 +120,8 @@ same-length c = search needs
 
 returns : tie.Need-returns
 returns c =
-    (rw (c .before .before .before .before .before .before .before .before .before .before .before .before .before .before .before .before .before .before .before .cells-at .ensures .0) (c .before .before .before .before .before .before .run-rights .ensures .0), c .before .before .before .before .before .before .run-rights .ensures .1)
+    let ran = c .before .before .before .before .before .before in
+    (rw (ran .before .before .before .before .before .before .before .before .before .before .before .before .before .cells-at .ensures .0) (ran .run-rights .ensures .0), ran .run-rights .ensures .1)
 
 pub run-cells-spec : {M : Type 1} → statement M
 run-cells-spec =

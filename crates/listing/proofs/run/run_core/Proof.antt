@@ -13,19 +13,15 @@ use Rattle.listing.proofs.Whole.{core-wrong, dos-wrong, dos-right}
 use borrow.Author.Needs.{needs}
 use Rattle.listing.proofs.run.run_core.Statement.{statement}
 use Rattle.listing.proofs.run.run_core.Tie as tie
-use Rattle.listing.proofs.run.run_core.Reads as reads
-use Rattle.listing.proofs.run.run_core.Lts as lts
-use Rattle.listing.proofs.dos.dos_at.Reads as dos-at-reads
-use Rattle.listing.proofs.lines.core_row.Reads as core-row-reads
-use Rattle.listing.proofs.put.put_bad.Reads as put-bad-reads
-use Rattle.listing.proofs.run.room_for_answers.Reads as room-for-answers-reads
-use Rattle.listing.proofs.run.room_for_instructions.Reads as room-for-instructions-reads
-use Rattle.listing.proofs.run.run_listing.Reads as run-listing-reads
 
 abbrev lent : tie.Start → Tables
 lent c =
     tables (c .args .m) (now (c .args .first)) (now (c .args .last)) (now (c .args .offset)) (now (c .args .marks)) (now (c .args .rights))
     (now (c .args .grants)) (now (c .args .memory))
+
+-- the start, from where the core line was read
+abbrev start : tie.After-core-row → tie.Start
+start c = c .before .before .before .before .before .before .before .before .before .before
 
 -- the do lines that `dos_at` answered and left
 abbrev done : tie.After-dos-at → Dos
@@ -57,12 +53,12 @@ same-length c = search needs
 
 returns : tie.Need-returns
 returns c =
-    let a = c .before .before .before .before .before .before .before .before .before .before .before .before .before .before .before .before .before in
-    let e = c .before .before .before .before .before .before .before .core-row .ensures in (
-      rw (← core-wrong (a .args .s .now) (a .args .line) (lent a) (coreRow (a .args .s .now) (a .args .next))
-          (ap (λ (r : Row). r .ok) (sym e) ∙ not-true _ (c .before .before .before .before .if1 .taken)))
-          (c .before .before .put-bad .ensures .0),
-      omega (arith, c .before .before .put-bad .ensures .1, c .before .before .before .before .before .before .before .before .before .before .before .before .before .before .before .before .before .pre .6 .head),
+    let core = c .before .before .before .before .before .before .before in
+    let a = start core in
+    let bad = c .before .before .put-bad in
+    let wrong = ap (λ (r : Row). r .ok) (sym (core .core-row .ensures)) ∙ not-true _ (c .before .before .before .before .if1 .taken) in (
+      rw (← core-wrong (a .args .s .now) (a .args .line) (lent a) (coreRow (a .args .s .now) (a .args .next)) wrong) (bad .ensures .0),
+      omega (arith, bad .ensures .1, a .pre .6 .head),
     )
 
 room-for-instructions-requires : tie.Need-room-for-instructions-requires
@@ -94,15 +90,17 @@ same-length-2 c = search needs
 
 returns-2 : tie.Need-returns-2
 returns-2 c =
-    let a = c .before .before .before .before .before .before .before .before .before .before .before .before .before .before .before .before .before .before .before .before .before .before .before in
-    let d = c .before .before .before .before .before .before .before in (
+    let dos = c .before .before .before .before .before .before .before in
+    let core = dos .before .before .before .before .before .before in
+    let a = start core in
+    let bad = c .before .before .put-bad2 in (
       rw (
-        ← c .before .before .before .before .before .before .before .before .before .before .before .before .before .core-row .ensures,
-        ← dos-wrong (a .args .s .now) (a .args .line) (lent a) (c .before .before .before .before .before .before .before .before .before .before .before .before .before .core-row .result) (not-false _ (c .before .before .before .before .before .before .before .before .before .before .if1 .left)) (done d)
-            (d .dos-at .ensures .0) (c .before .before .before .before .if2 .taken),
+        ← core .core-row .ensures,
+        ← dos-wrong (a .args .s .now) (a .args .line) (lent a) (core .core-row .result) (not-false _ (dos .before .before .before .if1 .left)) (done dos)
+            (dos .dos-at .ensures .0) (c .before .before .before .before .if2 .taken),
       )
-          (c .before .before .put-bad2 .ensures .0),
-      omega (arith, c .before .before .put-bad2 .ensures .1, c .before .before .before .before .before .before .before .before .before .before .before .before .before .before .before .before .before .before .before .before .before .before .before .pre .6 .head),
+          (bad .ensures .0),
+      omega (arith, bad .ensures .1, a .pre .6 .head),
     )
 
 mul-end : tie.Need-mul-end
@@ -126,21 +124,22 @@ room-for-answers-requires-2 c κs = search needs
 array-share-prefix-list : tie.Need-array-share-prefix-list
 array-share-prefix-list c = search needs
 
-slice-aggregate-run-listing : tie.Need-slice-aggregate-run-listing
-slice-aggregate-run-listing c = sym (length-take-le _ _ (inside (c .before .before .before .before .before .before .before .before .before .before)))
+slice-aggregate-run-instructions : tie.Need-slice-aggregate-run-instructions
+slice-aggregate-run-instructions c = sym (length-take-le _ _ (inside (c .before .before .before .before .before .before .before .before .before .before)))
 
-slice-aggregate-run-listing-2 : tie.Need-slice-aggregate-run-listing-2
-slice-aggregate-run-listing-2 c = search needs
+slice-aggregate-run-instructions-2 : tie.Need-slice-aggregate-run-instructions-2
+slice-aggregate-run-instructions-2 c = search needs
 
-slice-aggregate-run-listing-3 : tie.Need-slice-aggregate-run-listing-3
-slice-aggregate-run-listing-3 c = search needs
+slice-aggregate-run-instructions-3 : tie.Need-slice-aggregate-run-instructions-3
+slice-aggregate-run-instructions-3 c = search needs
 
-run-listing-requires : tie.Need-run-listing-requires
-run-listing-requires c κs =
-    let asked = c .before .before .before .before .before .before .before .before .before .before .before .before .before .before .before .before .before .before .before .before .before .before .before .before .before .before .before .before .before .pre in
-    let d = c .before .before .before .before .before .before .before .before .before .before .before .before .before in (
-      (sym (c .before .before .before .before .before .before .before .before .before .room-for-answers .ensures), sym (c .before .before .before .before .before .before .before .before .room-for-answers2 .ensures)),
-      (asked .0, asked .1, asked .2, asked .3, length-take-le _ _ (inside d), d .dos-at .ensures .1, asked .6),
+run-instructions-requires : tie.Need-run-instructions-requires
+run-instructions-requires c κs =
+    let dos = c .before .before .before .before .before .before .before .before .before .before .before .before .before in
+    let asked = start (dos .before .before .before .before .before .before) .pre in
+    let rooms = c .before .before .before .before .before .before .before .before in (
+      (sym (rooms .before .room-for-answers .ensures), sym (rooms .room-for-answers2 .ensures)),
+      (asked .0, asked .1, asked .2, asked .3, length-take-le _ _ (inside dos), dos .dos-at .ensures .1, asked .6),
     )
 
 same-length-3 : tie.Need-same-length-3
@@ -160,15 +159,17 @@ same-length-7 c = search needs
 
 returns-3 : tie.Need-returns-3
 returns-3 c =
-    let a = c .before .before .before .before .before .before .before .before .before .before .before .before .before .before .before .before .before .before .before .before .before .before .before .before .before .before .before .before .before .before .before .before .before .before .before .before .before .before .before .before .before .before in
-    let d = c .before .before .before .before .before .before .before .before .before .before .before .before .before .before .before .before .before .before .before .before .before .before .before .before .before .before in (
+    let ran = c .before .before .before .before .before .before .before .before .before .before .before .before in
+    let dos = ran .before .before .before .before .before .before .before .before .before .before .before .before .before .before in
+    let core = dos .before .before .before .before .before .before in
+    let a = start core in (
       rw (
-        ← c .before .before .before .before .before .before .before .before .before .before .before .before .before .before .before .before .before .before .before .before .before .before .before .before .before .before .before .before .before .before .before .before .core-row .ensures,
-        ← dos-right (a .args .s .now) (a .args .line) (lent a) (c .before .before .before .before .before .before .before .before .before .before .before .before .before .before .before .before .before .before .before .before .before .before .before .before .before .before .before .before .before .before .before .before .core-row .result) (not-false _ (c .before .before .before .before .before .before .before .before .before .before .before .before .before .before .before .before .before .before .before .before .before .before .before .before .before .before .before .before .before .if1 .left)) (done d)
-            (d .dos-at .ensures .0) (c .before .before .before .before .before .before .before .before .before .before .before .before .before .before .before .before .before .before .before .before .before .before .before .if2 .left),
+        ← core .core-row .ensures,
+        ← dos-right (a .args .s .now) (a .args .line) (lent a) (core .core-row .result) (not-false _ (dos .before .before .before .if1 .left)) (done dos)
+            (dos .dos-at .ensures .0) (ran .before .before .before .before .before .before .before .before .before .before .before .if2 .left),
       )
-          (c .before .before .before .before .before .before .before .before .before .before .before .before .run-listing .ensures .0),
-      c .before .before .before .before .before .before .before .before .before .before .before .before .run-listing .ensures .1,
+          (ran .run-instructions .ensures .0),
+      ran .run-instructions .ensures .1,
     )
 
 pub run-core-spec : {M : Type 1} → statement M
@@ -198,10 +199,10 @@ run-core-spec =
     room-for-answers-requires
     room-for-answers-requires-2
     array-share-prefix-list
-    slice-aggregate-run-listing
-    slice-aggregate-run-listing-2
-    slice-aggregate-run-listing-3
-    run-listing-requires
+    slice-aggregate-run-instructions
+    slice-aggregate-run-instructions-2
+    slice-aggregate-run-instructions-3
+    run-instructions-requires
     same-length-3
     same-length-4
     same-length-5

@@ -8,11 +8,10 @@ use Rattle.listing.proofs.Whole.{rights-read}
 use borrow.Author.Needs.{needs}
 use Rattle.listing.proofs.run.run_rights.Statement.{statement}
 use Rattle.listing.proofs.run.run_rights.Tie as tie
-use Rattle.listing.proofs.run.run_rights.Reads as reads
-use Rattle.listing.proofs.run.run_rights.Lts as lts
-use Rattle.listing.proofs.entries.fill_bytes.Reads as fill-bytes-reads
-use Rattle.listing.proofs.grants.fill_grants.Reads as fill-grants-reads
-use Rattle.listing.proofs.run.run_core.Reads as run-core-reads
+
+-- the start, from where the right lines were read
+abbrev start : tie.After-fill-bytes → tie.Start
+start c = c .before .before .before .before .before .before .before .before .before .before .before
 
 -- as many entries as there are cells and divisions
 entries : (c : tie.Start) → length (c .args .first .now) * c .args .m ≤ 8192
@@ -31,40 +30,58 @@ cast-fill-grants : tie.Need-cast-fill-grants
 cast-fill-grants c = search needs
 
 fill-bytes-requires : tie.Need-fill-bytes-requires
-fill-bytes-requires c κs = ((c .before .before .before .before .before .before .before .before .before .before .pre .0 .3, c .before .before .before .before .before .before .before .before .before .before .pre .0 .1), rights-long (c .before .before .before .before .before .before .before .before .before .before))
+fill-bytes-requires c κs =
+    let a = c .before .before .before .before .before .before .before .before .before .before in
+    ((a .pre .0 .3, a .pre .0 .1), rights-long a)
 
 cast-fill-grants-2 : tie.Need-cast-fill-grants-2
 cast-fill-grants-2 c = search needs
 
 fill-grants-requires : tie.Need-fill-grants-requires
-fill-grants-requires c κs = (c .before .before .before .before .before .before .before .before .before .before .before .before .before .before .pre .0 .3, c .before .before .before .before .before .before .before .before .before .before .before .before .before .before .pre .0 .0, c .before .before .before .before .before .before .before .before .before .before .before .before .before .before .pre .0 .1, grants-long (c .before .before .before .before .before .before .before .before .before .before .before .before .before .before))
+fill-grants-requires c κs =
+    let a = start (c .before .before .before) in
+    (a .pre .0 .3, a .pre .0 .0, a .pre .0 .1, grants-long a)
 
 fill-bytes-requires-2 : tie.Need-fill-bytes-requires-2
-fill-bytes-requires-2 c κs = (c .before .before .before .before .before .before .before .before .before .before .before .before .before .before .before .before .before .before .pre .0 .2, bytes-long (c .before .before .before .before .before .before .before .before .before .before .before .before .before .before .before .before .before .before))
+fill-bytes-requires-2 c κs =
+    let a = start (c .before .before .before .before .before .before .before) in
+    (a .pre .0 .2, bytes-long a)
 
 add-line : tie.Need-add-line
-add-line c = omega (arith, c .before .before .before .before .before .before .before .before .before .before .before .before .before .before .before .before .before .before .before .before .before .pre .0 .3)
+add-line c = omega (arith, start (c .before .before .before .before .before .before .before .before .before .before) .pre .0 .3)
 
 add-line-2 : tie.Need-add-line-2
-add-line-2 c = omega (arith, c .before .before .before .before .before .before .before .before .before .before .before .before .before .before .before .before .before .before .before .before .before .before .pre .0 .3, c .before .before .before .before .before .before .before .before .before .before .before .before .before .before .before .before .before .before .before .before .before .before .pre .0 .4, c .before .before .before .before .before .before .before .before .before .before .before .fill-bytes .ensures .1)
+add-line-2 c =
+    let r = c .before .before .before .before .before .before .before .before .before .before .before in
+    omega (arith, start r .pre .0 .3, start r .pre .0 .4, r .fill-bytes .ensures .1)
 
 add-line-3 : tie.Need-add-line-3
-add-line-3 c = omega (arith, c .before .before .before .before .before .before .before .before .before .before .before .before .before .before .before .before .before .before .before .before .before .before .before .pre .0 .3, c .before .before .before .before .before .before .before .before .before .before .before .before .before .before .before .before .before .before .before .before .before .before .before .pre .0 .4, c .before .before .before .before .before .before .before .before .before .before .before .before .fill-bytes .ensures .1, c .before .before .before .before .before .before .before .before .fill-grants .ensures .1)
+add-line-3 c =
+    let g = c .before .before .before .before .before .before .before .before in
+    let r = g .before .before .before .before in
+    omega (arith, start r .pre .0 .3, start r .pre .0 .4, r .fill-bytes .ensures .1, g .fill-grants .ensures .1)
 
 add-line-4 : tie.Need-add-line-4
-add-line-4 c = omega (arith, c .before .before .before .before .before .before .before .before .before .before .before .before .before .before .before .before .before .before .before .before .before .before .before .before .pre .0 .3, c .before .before .before .before .before .before .before .before .before .before .before .before .before .before .before .before .before .before .before .before .before .before .before .before .pre .0 .4, c .before .before .before .before .before .before .before .before .before .before .before .before .before .fill-bytes .ensures .1, c .before .before .before .before .before .before .before .before .before .fill-grants .ensures .1, c .before .before .before .before .before .fill-bytes2 .ensures .1)
+add-line-4 c =
+    let b = c .before .before .before .before .before in
+    let g = b .before .before .before .before in
+    let r = g .before .before .before .before in
+    omega
+    (arith, start r .pre .0 .3, start r .pre .0 .4, r .fill-bytes .ensures .1, g .fill-grants .ensures .1, b .fill-bytes2 .ensures .1)
 
 run-core-requires : tie.Need-run-core-requires
 run-core-requires c κs =
-    let a = c .before .before .before .before .before .before .before .before .before .before .before .before .before .before .before .before .before .before .before .before .before .before .before .before .before .before .before .before .before in
-    let r = c .before .before .before .before .before .before .before .before .before .before .before .before .before .before .before .before .before .before .fill-bytes in
-    let g = c .before .before .before .before .before .before .before .before .before .before .before .before .before .before .fill-grants in (
+    let b = c .before .before .before .before .before .before .before .before .before .before in
+    let g = b .before .before .before .before in
+    let r = g .before .before .before .before in
+    let a = start r in (
       a .pre .0 .0,
       a .pre .0 .1,
-      omega (arith, entries a, rights-long a, r .kept .1 .1 .1 .0),
-      omega (arith, entries a, grants-long a, g .kept .1 .1 .1 .1 .0),
+      omega (arith, entries a, rights-long a, r .fill-bytes .kept .1 .1 .1 .0),
+      omega (arith, entries a, grants-long a, g .fill-grants .kept .1 .1 .1 .1 .0),
       a .pre .0 .4,
-      omega (arith, a .pre .0 .3, a .pre .0 .4, r .ensures .1, g .ensures .1, c .before .before .before .before .before .before .before .before .before .before .fill-bytes2 .ensures .1),
+      omega
+          (arith, a .pre .0 .3, a .pre .0 .4, r .fill-bytes .ensures .1, g .fill-grants .ensures .1, b .fill-bytes2 .ensures .1),
       a .pre .0 .5,
     )
 
@@ -72,7 +89,9 @@ same-length : tie.Need-same-length
 same-length c = search needs
 
 same-length-2 : tie.Need-same-length-2
-same-length-2 c = c .before .before .before .before .before .before .before .before .before .before .run-core .kept .1 .1 .1 .1 .1 .1 .1 .1 .0 ∙ c .before .before .before .before .before .before .before .before .before .before .before .before .before .before .before .before .before .before .before .before .before .before .before .before .before .before .before .before .before .fill-bytes .kept .1 .1 .1 .0
+same-length-2 c =
+    let ran = c .before .before .before .before .before .before .before .before .before .before in
+    ran .run-core .kept .1 .1 .1 .1 .1 .1 .1 .1 .0 ∙ ran .before .before .before .before .before .before .before .before .before .before .before .before .before .before .before .before .before .before .before .fill-bytes .kept .1 .1 .1 .0
 
 same-length-3 : tie.Need-same-length-3
 same-length-3 c = search needs
@@ -85,17 +104,19 @@ same-length-5 c = search needs
 
 returns : tie.Need-returns
 returns c =
-    let a = c .before .before .before .before .before .before .before .before .before .before .before .before .before .before .before .before .before .before .before .before .before .before .before .before .before .before .before .before .before .before .before .before .before .before .before .before .before .before .before .before .args in
-    let r = c .before .before .before .before .before .before .before .before .before .before .before .before .before .before .before .before .before .before .before .before .before .before .before .before .before .before .before .before .before .fill-bytes in
-    let g = c .before .before .before .before .before .before .before .before .before .before .before .before .before .before .before .before .before .before .before .before .before .before .before .before .before .fill-grants in
-    let b = c .before .before .before .before .before .before .before .before .before .before .before .before .before .before .before .before .before .before .before .before .before .fill-bytes2 in
+    let ran = c .before .before .before .before .before .before .before .before .before .before in
+    let filled = ran .before .before .before .before .before .before .before .before .before .before .before in
+    let b = filled .fill-bytes2 in
+    let g = filled .before .before .before .before .fill-grants in
+    let r = filled .before .before .before .before .before .before .before .before .fill-bytes in
+    let start = start (filled .before .before .before .before .before .before .before .before) in
+    let a = start .args in
     let cells : Cells = record { next = a .next; first = a .first .now; last = a .last .now; offset = a .offset .now; marks = a .marks .now } in
-    let same = rights-read (a .s .now) (a .m) (a .l) cells (r .result) (g .result) (b .result) (a .rights .now) (r .last .1 .1 .1 .0)
-    (a .grants .now) (g .last .1 .1 .1 .1 .0) (a .memory .now) (b .last .1 .1 .1 .0) (c .before .before .before .before .before .before .before .before .before .before .before .before .before .before .before .before .before .before .before .before .before .before .before .before .before .before .before .before .before .before .before .before .before .before .before .before .before .before .before .before .pre .1 .0) (c .before .before .before .before .before .before .before .before .before .before .before .before .before .before .before .before .before .before .before .before .before .before .before .before .before .before .before .before .before .before .before .before .before .before .before .before .before .before .before .before .pre .1 .1)
-    (c .before .before .before .before .before .before .before .before .before .before .before .before .before .before .before .before .before .before .before .before .before .before .before .before .before .before .before .before .before .before .before .before .before .before .before .before .before .before .before .before .pre .1 .2) (r .ensures .0) (g .ensures .0) (b .ensures .0) in (
-      rw (← same) (c .before .before .before .before .before .before .before .before .before .before .run-core .ensures .0),
-      c .before .before .before .before .before .before .before .before .before .before .run-core .ensures .1,
-    )
+    let same =
+    rights-read (a .s .now) (a .m) (a .l) cells (r .result) (g .result) (b .result) (a .rights .now) (r .last .1 .1 .1 .0)
+    (a .grants .now) (g .last .1 .1 .1 .1 .0) (a .memory .now) (b .last .1 .1 .1 .0) (start .pre .1 .0) (start .pre .1 .1)
+    (start .pre .1 .2) (r .ensures .0) (g .ensures .0) (b .ensures .0) in
+    (rw (← same) (ran .run-core .ensures .0), ran .run-core .ensures .1)
 
 pub run-rights-spec : {M : Type 1} → statement M
 run-rights-spec =

@@ -1,14 +1,13 @@
 -- Each arm answers for its instruction's `needs`: the arm's equation of the instruction, the judge's answer, and what
 -- was looked up are put in, and both sides are one list of checks.
 use borrow.Author.Needs.{needs as trivial}
-use mathlib.Core.Path.{_≡_, sym, _∙_}
-use native.Mathlib.Omega.{arith}
+use mathlib.Core.Path.{sym, _∙_}
 use denote.Ref.{now}
 use Rattle.rules.specs.Numbers.{State, tables, state}
 use Rattle.rules.specs.Instructions.{valid, place, nobodyElse, needs}
 use Rattle.rules.specs.declared.Instruction.the-variants.{Fetch, Switch, Receive}
 use Rattle.monitor.proofs.Judging.{entry-once}
-use Rattle.monitor.proofs.Readiness.{CellIn, cell-in, row-in-rights, entry-in-rights, entry-in-grants, word-inside, range-of, cell-of}
+use Rattle.monitor.proofs.Readiness.{cell-in, row-in-rights, entry-in-rights, entry-in-grants, word-inside, range-of, cell-of}
 use Rattle.monitor.proofs.judge.judge.Statement.{statement}
 use Rattle.monitor.proofs.judge.judge.Tie as tie
 

@@ -1,7 +1,6 @@
 -- The four numbers are decoded, and then the instruction is stepped: each return is one law of `Executing`.
 use borrow.Author.Needs.{needs}
-use mathlib.Core.Path.{_≡_, sym, _∙_}
-use mathlib.Core.List.{[]}
+use mathlib.Core.Path.{sym, _∙_}
 use native.Mathlib.Omega.{arith}
 use denote.Ref.{now}
 use Rattle.rules.specs.Numbers.{State, tables, state}

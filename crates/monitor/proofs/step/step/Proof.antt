@@ -1,6 +1,6 @@
 -- The cell is found, the instruction judged on it and applied: each return is one law of `Stepping`.
 use borrow.Author.Needs.{needs}
-use mathlib.Core.Path.{_≡_, sym, _∙_}
+use mathlib.Core.Path.{_∙_}
 use denote.Ref.{now}
 use Rattle.rules.specs.Numbers.{State, tables, state}
 use Rattle.rules.specs.Instructions.{addressOf}

@@ -1,6 +1,35 @@
-//! The proved library's calls, as include/cells.h declares them, behind safe functions on the yardstick's types.
+//! The proved library's calls, as include/cells.h declares them, behind safe functions. The static library must have been
+//! built before: `rt staticlib exports`.
 
-use measure::quick::{Lent, Registers, Reply};
+/// One core's registers, laid out as include/cells.h has them.
+#[repr(C)]
+#[derive(Clone, Copy, PartialEq, Eq, Debug)]
+pub struct Registers {
+    pub current: u32,
+    pub caller: u32,
+    pub place: u32,
+}
+
+/// What a call answers, laid out as include/cells.h has it.
+#[repr(C)]
+#[derive(Clone, Copy, PartialEq, Eq, Debug)]
+pub struct Reply {
+    pub number: u32,
+    pub value: u32,
+    pub registers: Registers,
+}
+
+/// The lists that a caller lends. N is the length of `first`, L the length of `memory`.
+pub struct Lent<'a> {
+    pub m: usize,
+    pub first: &'a [u32],
+    pub last: &'a [u32],
+    pub offset: &'a [u32],
+    pub marks: &'a mut [u8],
+    pub rights: &'a mut [u8],
+    pub grants: &'a mut [u16],
+    pub memory: &'a mut [u8],
+}
 
 /// Where a view's part begins in the memory, and how many bytes it has.
 #[repr(C)]
@@ -68,8 +97,10 @@ extern "C" {
     ) -> ViewPlace;
 }
 
-// In every call below each pointer comes with the length of the list that it points to.
+// In every call below each pointer comes with the length of the list that it points to, and a list that is lent by `&mut`
+// overlaps no other.
 
+/// One instruction, given as four numbers.
 pub fn execute(t: &mut Lent, r: Registers, [number, x, y, z]: [u32; 4]) -> Reply {
     unsafe {
         cells_execute(
@@ -82,6 +113,7 @@ pub fn execute(t: &mut Lent, r: Registers, [number, x, y, z]: [u32; 4]) -> Reply
     }
 }
 
+/// Instructions in turn, four numbers each, with their answers in two lists.
 pub fn execute_all(t: &mut Lent, r: Registers, instructions: &[u32], numbers: &mut [u32], values: &mut [u32]) -> Registers {
     unsafe {
         cells_execute_all(
@@ -95,6 +127,7 @@ pub fn execute_all(t: &mut Lent, r: Registers, instructions: &[u32], numbers: &m
     }
 }
 
+/// The bytes of the memory from the place of `x` on become those of the block.
 pub fn write_block(t: &mut Lent, r: Registers, x: u32, block: &[u8]) -> Reply {
     unsafe {
         cells_write_block(
@@ -107,6 +140,7 @@ pub fn write_block(t: &mut Lent, r: Registers, x: u32, block: &[u8]) -> Reply {
     }
 }
 
+/// Where the part of the memory lies that a read view of `n` bytes from `x` on hands back.
 pub fn view(t: &Lent, r: Registers, x: u32, n: usize) -> ViewPlace {
     unsafe {
         cells_view(

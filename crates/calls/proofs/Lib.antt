@@ -1,0 +1,3 @@
+-- Demand 3 of what the functions do: from their contracts, as the source states them, to histories.
+pub mod Lists
+pub mod Contracts
