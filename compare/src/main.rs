@@ -1,6 +1,6 @@
 //! Compares the proved library with the independent implementation, call by call and entry by entry, over seeded states:
-//! sound, unsound and malformed. Prints how often each kind of call gave each answer, and fails where the two differ, or
-//! where an answer that can be given was not reached.
+//! sound, unsound and malformed. Prints how often each kind of call gave each answer, and fails where the two differ, where
+//! an answer that can be given was not reached, or where one that cannot be given was.
 //!
 //! Then it compares the program `cellrun` itself over seeded listings.
 //!
@@ -53,7 +53,8 @@ fn one_state(seed: u64, counts: &mut [[u64; 14]; 14]) -> Result<u64, String> {
     Ok(40 + instructions.len() as u64)
 }
 
-/// All calls compared; what was reached of each kind is printed. How many answers that can be given were not reached.
+/// All calls compared; what was reached of each kind is printed. How many answers are amiss: one that can be given and was
+/// not reached, or one that cannot be given and was.
 fn calls(wanted: u64) -> Result<u32, String> {
     let mut counts = [[0u64; 14]; 14];
     let (mut made, mut seed) = (0, 1);
@@ -61,23 +62,23 @@ fn calls(wanted: u64) -> Result<u32, String> {
         made += one_state(seed, &mut counts)?;
         seed += 1;
     }
-    let mut missed = 0;
+    let mut amiss = 0;
     for (row, name) in ROWS.iter().enumerate() {
         print!("{name:<13}");
         for (number, count) in counts[row].iter().enumerate() {
-            missed += u32::from(possible(row, number) && *count == 0);
+            amiss += u32::from(possible(row, number) != (*count > 0));
             print!("{:>8}", if possible(row, number) { count.to_string() } else { "-".to_string() });
         }
         println!();
     }
-    println!("{made} calls compared, {missed} answers that can be given not reached");
-    Ok(missed)
+    println!("{made} calls compared, {amiss} answers amiss: not reached, or reached where they cannot be given");
+    Ok(amiss)
 }
 
 /// Both comparisons. A listing's run is of use only where some texts were wrong and some were not.
 fn run(wanted: u64, listings: u64, program: &str) -> Result<(), String> {
     if calls(wanted)? != 0 {
-        return Err("not every answer was reached".to_string());
+        return Err("the answers reached are not those that can be given".to_string());
     }
     let wrong = listings::compare(Path::new(program), listings)?;
     println!("{listings} listings compared through cellrun, {wrong} of them wrong text");

@@ -148,31 +148,45 @@ fn lay_cells(t: &mut Tables, n: usize, random: &mut Random) {
     let mut left = l - n * unit;
     let mut free_place = 0;
     let gap_style = random.below(3);
+    // Addresses count from 0 here and are moved to their base afterwards.
     let mut span = 0u64;
     for cell in 0..n {
-        let gap = if random.one_in(4) { share(left, n - cell, random) } else { 0 };
-        left -= gap;
-        let end_of_memory = cell + 1 == n && random.one_in(2);
-        let more = if end_of_memory { left } else { share(left, n - cell, random) / unit * unit };
-        left -= more;
+        let (gap, more) = gap_and_more(left, n - cell, unit, random);
+        left -= gap + more;
         let length = unit + more;
         t.offset.push((free_place + gap) as u32);
         free_place += gap + length;
-
-        // Addresses count from 0 here and are moved to their base below. The
-        // widest gaps add up to less than half of all addresses.
-        let apart = match (cell, gap_style) {
-            (0, _) | (_, 0) => 0,
-            (_, 1) => random.below(3),
-            _ => random.below((1 << 29) / n as u64),
-        };
-        span += apart * unit as u64;
+        span += units_apart(cell, n, gap_style, random) * unit as u64;
         t.first.push(span as u32);
         span += length as u64;
         t.last.push((span - 1) as u32);
     }
+    move_to_base(t, span, unit as u64, random);
+}
+
+/// Bytes of memory between a cell and the one before, and bytes that the cell
+/// has beyond one unit. `cells` counts the cell and those after it.
+fn gap_and_more(left: usize, cells: usize, unit: usize, random: &mut Random) -> (usize, usize) {
+    let gap = if random.one_in(4) { share(left, cells, random) } else { 0 };
+    let left = left - gap;
+    let end_of_memory = cells == 1 && random.one_in(2);
+    let more = if end_of_memory { left } else { share(left, cells, random) / unit * unit };
+    (gap, more)
+}
+
+/// Units of addresses between a cell and the one before. The widest add up to
+/// less than half of all addresses.
+fn units_apart(cell: usize, n: usize, gap_style: u64, random: &mut Random) -> u64 {
+    match (cell, gap_style) {
+        (0, _) | (_, 0) => 0,
+        (_, 1) => random.below(3),
+        _ => random.below((1 << 29) / n as u64),
+    }
+}
+
+/// Moves cells, which take up `span` addresses from 0 on, to where they begin.
+fn move_to_base(t: &mut Tables, span: u64, unit: u64, random: &mut Random) {
     let room = (1u64 << 32) - span;
-    let unit = unit as u64;
     let base = match random.below(4) {
         0 => 0,
         // The last cell then ends at the highest address.
@@ -180,9 +194,8 @@ fn lay_cells(t: &mut Tables, n: usize, random: &mut Random) {
         2 => random.below(room + 1) / unit * unit,
         _ => random.below(room.min(65_536) + 1) / unit * unit,
     } as u32;
-    for cell in 0..n {
-        t.first[cell] += base;
-        t.last[cell] += base;
+    for address in t.first.iter_mut().chain(t.last.iter_mut()) {
+        *address += base;
     }
 }
 
@@ -374,41 +387,26 @@ pub fn spoil(
     way: Spoil,
     random: &mut Random,
 ) -> Option<(u32, u32)> {
-    let n = t.first.len();
+    match way {
+        Spoil::Current => r.current = past(t.m, random),
+        Spoil::Caller => r.caller = past(t.m, random),
+        _ => return spoil_tables(t, way, random),
+    }
+    Some((3, 0))
+}
+
+/// The ways that spoil tables for check 1; all others are for a cell.
+fn spoil_tables(t: &mut Tables, way: Spoil, random: &mut Random) -> Option<(u32, u32)> {
     let m = t.m;
     match way {
-        Spoil::NoDivisions => {
-            t.m = 0;
-            t.rights.clear();
-            t.grants.clear();
-            Some((1, 0))
-        }
+        Spoil::NoDivisions => with_divisions(t, 0),
         Spoil::TooManyDivisions => {
-            t.m = random.pick(&[33, 34, 64, 255, 256, 257]);
-            t.rights = vec![0; n * t.m];
-            t.grants = vec![0; n * t.m];
-            Some((1, 0))
+            let many = random.pick(&[33, 34, 64, 255, 256, 257]);
+            with_divisions(t, many);
         }
-        Spoil::HugeDivisions => {
-            t.m = random.pick(&[usize::MAX, usize::MAX / 2 + 1, 1 << 31]);
-            Some((1, 0))
-        }
-        Spoil::TooManyCells => {
-            // Sound in everything but their number.
-            let n = random.pick(&[257, 258, 300]);
-            t.first = (0..n).collect();
-            t.last = (0..n).collect();
-            t.offset = (0..n).collect();
-            t.marks = vec![1; n as usize];
-            t.rights = vec![1; n as usize * m];
-            t.grants = vec![0; n as usize * m];
-            t.memory.resize(t.memory.len().max(n as usize), 0);
-            Some((1, 0))
-        }
-        Spoil::TooMuchMemory => {
-            t.memory.resize(random.pick(&[65_537, 65_540, 70_000]), 0);
-            Some((1, 0))
-        }
+        Spoil::HugeDivisions => t.m = random.pick(&[usize::MAX, usize::MAX / 2 + 1, 1 << 31]),
+        Spoil::TooManyCells => too_many_cells(t, random),
+        Spoil::TooMuchMemory => t.memory.resize(random.pick(&[65_537, 65_540, 70_000]), 0),
         Spoil::FirstLength => wrong_length(&mut t.first, 1, random),
         Spoil::LastLength => wrong_length(&mut t.last, 1, random),
         Spoil::OffsetLength => wrong_length(&mut t.offset, 1, random),
@@ -416,28 +414,36 @@ pub fn spoil(
         Spoil::RightsLength => wrong_length(&mut t.rights, m, random),
         Spoil::GrantsLength => wrong_length(&mut t.grants, m, random),
         Spoil::DivisionsOtherThanLists => {
-            if n == 0 {
+            // With no cells the lists are empty and suit any M.
+            if t.first.is_empty() {
                 return None;
             }
             t.m = if m == 1 || (m < 32 && random.one_in(2)) { m + 1 } else { m - 1 };
-            Some((1, 0))
         }
-        Spoil::Current => {
-            r.current = past(m, random);
-            Some((3, 0))
-        }
-        Spoil::Caller => {
-            r.caller = past(m, random);
-            Some((3, 0))
-        }
-        _ => {
-            if n == 0 {
-                return None;
-            }
-            let cell = random.index(n);
-            spoil_cell(t, way, cell, random).map(|lowest| (2, lowest as u32))
-        }
+        _ => return spoil_some_cell(t, way, random),
     }
+    Some((1, 0))
+}
+
+/// Another M, with lists of the lengths that belong to it.
+fn with_divisions(t: &mut Tables, m: usize) {
+    let n = t.first.len();
+    t.m = m;
+    t.rights = vec![0; n * m];
+    t.grants = vec![0; n * m];
+}
+
+/// More cells than there may be, sound in everything but their number.
+fn too_many_cells(t: &mut Tables, random: &mut Random) {
+    let n = random.pick(&[257, 258, 300]);
+    t.first = (0..n).collect();
+    t.last = (0..n).collect();
+    t.offset = (0..n).collect();
+    let n = n as usize;
+    t.marks = vec![1; n];
+    t.rights = vec![1; n * t.m];
+    t.grants = vec![0; n * t.m];
+    t.memory.resize(t.memory.len().max(n), 0);
 }
 
 /// A division number at or past M.
@@ -447,11 +453,7 @@ fn past(m: usize, random: &mut Random) -> u32 {
 }
 
 /// Makes a list one entry or one row longer or shorter, or empty.
-fn wrong_length<T: Copy + Default>(
-    list: &mut Vec<T>,
-    row: usize,
-    random: &mut Random,
-) -> Option<(u32, u32)> {
+fn wrong_length<T: Copy + Default>(list: &mut Vec<T>, row: usize, random: &mut Random) {
     let length = list.len();
     let other = match random.below(5) {
         0 => length + row,
@@ -461,101 +463,160 @@ fn wrong_length<T: Copy + Default>(
         _ => length + 1,
     };
     list.resize(other, T::default());
-    Some((1, 0))
+}
+
+/// Puts a fault into a cell drawn at random, if there is one.
+fn spoil_some_cell(t: &mut Tables, way: Spoil, random: &mut Random) -> Option<(u32, u32)> {
+    let n = t.first.len();
+    if n == 0 {
+        return None;
+    }
+    let cell = random.index(n);
+    spoil_cell(t, way, cell, random).map(|lowest| (2, lowest as u32))
 }
 
 /// Puts a fault into one cell; the lowest unsound cell afterwards.
 fn spoil_cell(t: &mut Tables, way: Spoil, cell: usize, random: &mut Random) -> Option<usize> {
-    let m = t.m;
-    let l = t.memory.len() as u32;
-    let first = t.first[cell];
-    let extent = t.last[cell] - first;
-    let division = random.index(m);
-    let entry = cell * m + division;
+    // Drawn for every way, needed or not.
+    let division = random.index(t.m);
     match way {
-        Spoil::FirstAboveLast => {
-            if first > 0 && random.one_in(2) {
-                t.last[cell] = random.pick(&[first - 1, 0]);
-            } else if t.last[cell] < TOP {
-                t.first[cell] = random.pick(&[t.last[cell] + 1, TOP]);
-            } else {
-                return None;
-            }
+        Spoil::FirstAboveLast => first_above_last(t, cell, random)?,
+        Spoil::PastMemory => {
+            let l = t.memory.len() as u32;
+            t.offset[cell] = random.pick(&[l - extent(t, cell), l]);
         }
-        Spoil::PastMemory => t.offset[cell] = random.pick(&[l - extent, l]),
-        Spoil::PastMemoryIfWrapped => {
-            // In 32 bits offset + extent would wrap round to a small place.
-            if extent == 0 {
-                return None;
-            }
-            t.offset[cell] = 0u32.wrapping_sub(random.between(1, u64::from(extent)) as u32);
+        Spoil::PastMemoryIfWrapped => past_memory_if_wrapped(t, cell, random)?,
+        Spoil::PastMemoryByLast => past_memory_by_last(t, cell, random)?,
+        Spoil::MemoryShort => {
+            let shorter = random.pick(&[end_place(t, cell), t.offset[cell]]);
+            return cut_memory(t, shorter);
         }
-        Spoil::PastMemoryByLast => {
-            // Longer than the memory has room for, by one byte or by very many.
-            let room = l - t.offset[cell];
-            if first > TOP - room {
-                return None;
-            }
-            t.last[cell] = random.pick(&[first + room, TOP]);
-        }
-        Spoil::MemoryShort | Spoil::NoMemory => {
-            let end = |cell: usize| t.offset[cell] + (t.last[cell] - t.first[cell]);
-            let shorter = match way {
-                Spoil::NoMemory => 0,
-                _ => random.pick(&[end(cell), t.offset[cell]]),
-            };
-            // Ends rise from cell to cell, so the lowest cell whose end is cut
-            // off may be another one than the cell chosen.
-            let lowest = (0..t.first.len()).find(|&cell| end(cell) >= shorter)?;
-            t.memory.truncate(shorter as usize);
-            return Some(lowest);
-        }
+        Spoil::NoMemory => return cut_memory(t, 0),
         Spoil::Mark => t.marks[cell] = random.between(2, 255) as u8,
-        Spoil::RightsEntry => {
-            // With a single holder, so that only the entry's size is at fault.
-            t.rights[cell * m..][..m].fill(0);
-            t.rights[entry] = random.pick(&[8, 9, 15, 16, 128, 255]);
-        }
-        Spoil::GrantWithoutRights => {
-            let target = if m >= 2 { random.another(m, division) } else { 1 };
-            t.grants[entry] = if target == 0 { 255 } else { target as u16 };
-        }
-        Spoil::GrantWithTooManyRights => {
-            if m < 2 {
-                return None;
-            }
-            let target = random.another(m, division) as u16;
-            t.grants[entry] = target + 256 * random.pick(&[8, 9, 15, 16, 128, 255]);
-        }
-        Spoil::GrantToNoDivision => {
-            let target = random.pick(&[m as u32, m as u32 + 1, 32, 33, 255]).max(m as u32);
-            t.grants[entry] = grant_entry(target, random.rights());
-        }
-        Spoil::GrantToSelf => t.grants[entry] = grant_entry(division as u32, random.rights()),
-        Spoil::TwoHolders => {
-            if m < 2 {
-                return None;
-            }
-            t.marks[cell] = 0;
-            t.rights[entry] = random.rights();
-            t.rights[cell * m + random.another(m, division)] = random.rights();
-        }
-        Spoil::AddressOverlap => {
-            // The cell keeps its length, so that only its address is at fault.
-            let before = t.last[cell.checked_sub(1)?];
-            let lower = random.below(u64::from(before) + 1) as u32;
-            t.first[cell] = random.pick(&[before, before, lower]);
-            t.last[cell] = t.first[cell] + extent;
-        }
-        Spoil::PlaceOverlap => {
-            let neighbour = cell.checked_sub(1)?;
-            let end = t.offset[neighbour] + (t.last[neighbour] - t.first[neighbour]);
-            let lower = random.below(u64::from(end) + 1) as u32;
-            t.offset[cell] = random.pick(&[end, end, lower]);
-        }
-        _ => return None,
+        Spoil::RightsEntry => rights_entry_too_large(t, cell, division, random),
+        Spoil::TwoHolders => two_holders(t, cell, division, random)?,
+        Spoil::AddressOverlap => address_overlap(t, cell, random)?,
+        Spoil::PlaceOverlap => place_overlap(t, cell, random)?,
+        _ => t.grants[cell * t.m + division] = wrong_grant(t.m, way, division, random)?,
     }
     Some(cell)
+}
+
+/// How far a sound cell's last is above its first.
+fn extent(t: &Tables, cell: usize) -> u32 {
+    t.last[cell] - t.first[cell]
+}
+
+/// The place in memory of a sound cell's last byte.
+fn end_place(t: &Tables, cell: usize) -> u32 {
+    t.offset[cell] + extent(t, cell)
+}
+
+fn first_above_last(t: &mut Tables, cell: usize, random: &mut Random) -> Option<()> {
+    let (first, last) = (t.first[cell], t.last[cell]);
+    if first > 0 && random.one_in(2) {
+        t.last[cell] = random.pick(&[first - 1, 0]);
+    } else if last < TOP {
+        t.first[cell] = random.pick(&[last + 1, TOP]);
+    } else {
+        return None;
+    }
+    Some(())
+}
+
+/// In 32 bits offset + last - first would wrap round to a small place.
+fn past_memory_if_wrapped(t: &mut Tables, cell: usize, random: &mut Random) -> Option<()> {
+    let extent = extent(t, cell);
+    if extent == 0 {
+        return None;
+    }
+    t.offset[cell] = 0u32.wrapping_sub(random.between(1, u64::from(extent)) as u32);
+    Some(())
+}
+
+/// Longer than the memory has room for, by one byte or by very many.
+fn past_memory_by_last(t: &mut Tables, cell: usize, random: &mut Random) -> Option<()> {
+    let first = t.first[cell];
+    let room = t.memory.len() as u32 - t.offset[cell];
+    if first > TOP - room {
+        return None;
+    }
+    t.last[cell] = random.pick(&[first + room, TOP]);
+    Some(())
+}
+
+/// Cuts the memory off before the end of a cell. Ends rise from cell to cell,
+/// so the lowest cell whose end is cut off may be another one than the cell
+/// chosen.
+fn cut_memory(t: &mut Tables, shorter: u32) -> Option<usize> {
+    let lowest = (0..t.first.len()).find(|&cell| end_place(t, cell) >= shorter)?;
+    t.memory.truncate(shorter as usize);
+    Some(lowest)
+}
+
+/// With a single holder, so that only the entry's size is at fault.
+fn rights_entry_too_large(t: &mut Tables, cell: usize, division: usize, random: &mut Random) {
+    let row = &mut t.rights[cell * t.m..][..t.m];
+    row.fill(0);
+    row[division] = random.pick(&[8, 9, 15, 16, 128, 255]);
+}
+
+/// A second holder of an invalid cell.
+fn two_holders(
+    t: &mut Tables,
+    cell: usize,
+    division: usize,
+    random: &mut Random,
+) -> Option<()> {
+    let m = t.m;
+    if m < 2 {
+        return None;
+    }
+    t.marks[cell] = 0;
+    let row = &mut t.rights[cell * m..][..m];
+    row[division] = random.rights();
+    row[random.another(m, division)] = random.rights();
+    Some(())
+}
+
+/// A grant entry that no granter may have.
+fn wrong_grant(m: usize, way: Spoil, granter: usize, random: &mut Random) -> Option<u16> {
+    match way {
+        Spoil::GrantWithoutRights => {
+            let target = if m >= 2 { random.another(m, granter) } else { 1 };
+            // The entry 0 would be no grant, and sound.
+            Some(if target == 0 { 255 } else { target as u16 })
+        }
+        Spoil::GrantWithTooManyRights if m >= 2 => {
+            let target = random.another(m, granter) as u16;
+            Some(target + 256 * random.pick(&[8, 9, 15, 16, 128, 255]))
+        }
+        Spoil::GrantToNoDivision => {
+            let m = m as u32;
+            let target = random.pick(&[m, m + 1, 32, 33, 255]).max(m);
+            Some(grant_entry(target, random.rights()))
+        }
+        Spoil::GrantToSelf => Some(grant_entry(granter as u32, random.rights())),
+        _ => None,
+    }
+}
+
+/// The cell keeps its length, so that only its address is at fault.
+fn address_overlap(t: &mut Tables, cell: usize, random: &mut Random) -> Option<()> {
+    let before = t.last[cell.checked_sub(1)?];
+    let extent = extent(t, cell);
+    let lower = random.below(u64::from(before) + 1) as u32;
+    t.first[cell] = random.pick(&[before, before, lower]);
+    t.last[cell] = t.first[cell] + extent;
+    Some(())
+}
+
+/// The cell keeps its addresses, so that only its place is at fault.
+fn place_overlap(t: &mut Tables, cell: usize, random: &mut Random) -> Option<()> {
+    let end = end_place(t, cell.checked_sub(1)?);
+    let lower = random.below(u64::from(end) + 1) as u32;
+    t.offset[cell] = random.pick(&[end, end, lower]);
+    Some(())
 }
 
 /// Spoils in a way drawn at random; nothing if it could not be done here.
@@ -715,104 +776,134 @@ fn find(
     Some((start_cell, start_division))
 }
 
+/// An instruction that leans towards a wish drawn for it.
 fn instruction_call(t: &Tables, r: &Registers, number: u32, random: &mut Random) -> Call {
     let wish = random.pick(&WISHES);
     let d = r.current as usize;
+    let search = Search { t, d, number, wish, coin: random.one_in(2) };
+    let found = find(t, random, |cell, other| search.suits(cell, other));
     let m = divisions(t);
-    let coin = random.one_in(2);
-
-    // Whether a cell, with another division where the instruction names one,
-    // leads to the wished answer.
-    let suits = |cell: usize, other: usize| -> bool {
-        let for_invalid = number == 9;
-        if wish == Wish::Validity {
-            return valid(t, cell) == for_invalid;
-        }
-        if valid(t, cell) == for_invalid {
-            return false;
-        }
-        let held = right(t, cell, d);
-        let missing = wish == Wish::RightMissing;
-        match number {
-            0 => (held & READ == 0) == missing,
-            1 => (held & WRITE == 0) == missing,
-            2 => {
-                let (first, last) = bounds(t, cell);
-                whole_words(first, last).is_some() && (held & EXECUTE == 0) == missing
-            }
-            3 => {
-                let entered = entry_address(t, cell).is_some();
-                let worded = match wish {
-                    Wish::Accepted => entered,
-                    _ => {
-                        let (first, last) = bounds(t, cell);
-                        whole_words(first, last).is_some()
-                    }
-                };
-                // Half the missing ones are held by the switcher instead.
-                let theirs = right(t, cell, other) & EXECUTE != 0;
-                worded && theirs != missing && !(missing && coin && held & EXECUTE == 0)
-            }
-            4 => match wish {
-                Wish::RightMissing => held != 7,
-                Wish::Special => (held == 0) == coin,
-                _ => held != 0,
-            },
-            5 | 7 => other != d && (if missing { held != 7 } else { held != 0 }),
-            6 => {
-                let entry = grant(t, cell, other);
-                let named = grant_parts(entry).is_some_and(|(target, _)| target as usize == d);
-                match wish {
-                    // No grant at all, or a grant to somebody else.
-                    Wish::Special => other != d && !named && (entry != 0) == coin,
-                    _ => other != d && named,
-                }
-            }
-            8 => match wish {
-                Wish::RightMissing => held == 0,
-                Wish::Special => held != 0 && others_hold(t, cell, d),
-                _ => held != 0 && !others_hold(t, cell, d),
-            },
-            9 => (held == 0) == missing,
-            _ => match wish {
-                Wish::RightMissing => held == 0,
-                _ => held != 0 && others_hold(t, cell, d) == coin,
-            },
-        }
-    };
-    let found = if wish == Wish::Any {
-        find(t, random, |_, _| true)
-    } else {
-        find(t, random, suits)
-    };
-    let (cell, other) = found.unwrap_or((0, random.index(m)));
-
-    let x = if found.is_none() || wish == Wish::NoCell {
-        edge_address(t, random)
-    } else if number == 2 || number == 3 {
-        word_address(t, cell, number, wish, random)
-    } else {
-        address_in(t, cell, random)
-    };
-    let held = right(t, cell, d);
-    // Never the current division where there is a choice.
-    let other = if other == d && m >= 2 && d < m { random.another(m, d) } else { other };
-    let switched = found.map_or(other, |(_, division)| division);
-    let byte = random.below(256) as u32;
-    let (y, z) = match number {
-        1 => (random.pick(&[0, 1, 11, 128, 255, byte, byte, byte]), 0),
-        3 => (switched as u32, 0),
-        4 => (u32::from(rights_to_protect(held, wish, random)), 0),
-        5 | 7 => (other as u32, u32::from(rights_to_grant(held, wish, random))),
-        6 => (other as u32, 0),
-        _ => (0, 0),
-    };
+    let (cell, named) = found.unwrap_or((0, random.index(m)));
+    let x = search.address(found.is_some(), cell, random);
+    // Never the current division where there is a choice, save for a switch,
+    // which may name it.
+    let other = if named == d && m >= 2 && d < m { random.another(m, d) } else { named };
+    let division = if number == 3 && found.is_some() { named } else { other };
+    let (y, z) = search.operands(cell, division as u32, random);
     let (y, z) = if wish == Wish::Operand {
         wrong_operands(number, y, z, t.m, r.current, random)
     } else {
         (y, z)
     };
     Call::Execute { number, x, y, z }
+}
+
+/// What the cell, the address and the operands of an instruction must suit.
+struct Search<'a> {
+    t: &'a Tables,
+    d: usize,
+    number: u32,
+    wish: Wish,
+    /// Chooses where one answer has two causes that are both worth meeting.
+    coin: bool,
+}
+
+impl Search<'_> {
+    /// Whether a cell, with another division where the instruction names one,
+    /// leads to the wished answer.
+    fn suits(&self, cell: usize, other: usize) -> bool {
+        // Only revalidate is for cells that are not valid.
+        let passes_check_7 = valid(self.t, cell) == (self.number != 9);
+        match self.wish {
+            Wish::Any => true,
+            Wish::Validity => !passes_check_7,
+            _ => passes_check_7 && self.later_checks_suit(cell, other),
+        }
+    }
+
+    /// The same for a cell that passes check 7.
+    fn later_checks_suit(&self, cell: usize, other: usize) -> bool {
+        let held = right(self.t, cell, self.d);
+        let missing = self.wish == Wish::RightMissing;
+        match self.number {
+            0 => (held & READ == 0) == missing,
+            1 => (held & WRITE == 0) == missing,
+            2 => has_word(self.t, cell) && (held & EXECUTE == 0) == missing,
+            3 => self.switch_suits(cell, other),
+            4 => match self.wish {
+                Wish::RightMissing => held != 7,
+                Wish::Special => (held == 0) == self.coin,
+                _ => held != 0,
+            },
+            5 | 7 => other != self.d && (if missing { held != 7 } else { held != 0 }),
+            6 => other != self.d && self.receive_suits(cell, other),
+            9 => (held == 0) == missing,
+            _ if missing => held == 0,
+            _ => held != 0 && self.holders_suit(cell),
+        }
+    }
+
+    fn switch_suits(&self, cell: usize, other: usize) -> bool {
+        let worded = match self.wish {
+            Wish::Accepted => entry_address(self.t, cell).is_some(),
+            _ => has_word(self.t, cell),
+        };
+        let missing = self.wish == Wish::RightMissing;
+        let own = right(self.t, cell, self.d) & EXECUTE != 0;
+        let theirs = right(self.t, cell, other) & EXECUTE != 0;
+        // Half the missing ones are held by the switcher instead.
+        worded && theirs != missing && !(missing && self.coin && !own)
+    }
+
+    fn receive_suits(&self, cell: usize, source: usize) -> bool {
+        let entry = grant(self.t, cell, source);
+        let named = grant_parts(entry).is_some_and(|(target, _)| target as usize == self.d);
+        match self.wish {
+            // No grant at all, or a grant to somebody else.
+            Wish::Special => !named && (entry != 0) == self.coin,
+            _ => named,
+        }
+    }
+
+    /// Whether others hold a right on the cell, or nobody, as an invalidate or
+    /// an exclusive wishes.
+    fn holders_suit(&self, cell: usize) -> bool {
+        let wanted = match self.number {
+            8 => self.wish == Wish::Special,
+            _ => self.coin,
+        };
+        others_hold(self.t, cell, self.d) == wanted
+    }
+
+    /// An address in the cell, unless none was found or none is wished for.
+    fn address(&self, found: bool, cell: usize, random: &mut Random) -> u32 {
+        if !found || self.wish == Wish::NoCell {
+            return edge_address(self.t, random);
+        }
+        match self.number {
+            2 | 3 => word_address(self.t, cell, self.number, self.wish, random),
+            _ => address_in(self.t, cell, random),
+        }
+    }
+
+    /// y and z, in their ranges if the division is.
+    fn operands(&self, cell: usize, division: u32, random: &mut Random) -> (u32, u32) {
+        let held = right(self.t, cell, self.d);
+        let byte = random.below(256) as u32;
+        match self.number {
+            1 => (random.pick(&[0, 1, 11, 128, 255, byte, byte, byte]), 0),
+            3 | 6 => (division, 0),
+            4 => (u32::from(rights_to_protect(held, self.wish, random)), 0),
+            5 | 7 => (division, u32::from(rights_to_grant(held, self.wish, random))),
+            _ => (0, 0),
+        }
+    }
+}
+
+/// Whether some word lies whole in the cell.
+fn has_word(t: &Tables, cell: usize) -> bool {
+    let (first, last) = bounds(t, cell);
+    whole_words(first, last).is_some()
 }
 
 /// Rights to protect down to: a strict part, the same, or not a part.
@@ -1236,141 +1327,106 @@ pub fn damage_so(text: &[u8], way: Damage, random: &mut Random) -> Vec<u8> {
         lines.push(Vec::new());
     }
     let at = random.index(lines.len());
-    let core = lines.iter().position(|line| line.starts_with(b"core\t")).unwrap_or(lines.len());
     match way {
-        Damage::EmptyText => lines.clear(),
+        Damage::EmptyText => Vec::new(),
+        Damage::CutAtByte => text[..random.index(text.len() + 1)].to_vec(),
+        Damage::FlipByte | Damage::InsertByte | Damage::DeleteByte => edit_byte(text, way, random),
+        Damage::ExactLength | Damage::TooLong => {
+            let mut longer = text.to_vec();
+            lengthen(&mut longer, MOST_TEXT + usize::from(way == Damage::TooLong), random);
+            longer
+        }
+        Damage::Noise => noise(random),
+        _ => {
+            damage_lines(&mut lines, at, way, random);
+            lines.concat()
+        }
+    }
+}
+
+/// Bytes that occur in listings, and some that do not, in no order.
+fn noise(random: &mut Random) -> Vec<u8> {
+    let length = random.index(200);
+    let signs = b"0123456789\t\n\r cellsizerightgrantbytecoredo\0\xff";
+    (0..length).map(|_| random.pick(signs)).collect()
+}
+
+/// The ways that lose, move or add whole lines or alter all of them; all others
+/// are for the one line at `at`. There is at least one line.
+fn damage_lines(lines: &mut Vec<Vec<u8>>, at: usize, way: Damage, random: &mut Random) {
+    let end = lines.len();
+    let core = lines.iter().position(|line| line.starts_with(b"core\t")).unwrap_or(end);
+    match way {
         Damage::NoLastLf => {
-            if let Some(line) = lines.last_mut() {
-                line.pop();
-            }
+            lines[end - 1].pop();
         }
-        Damage::CrBeforeLf => before_lf(&mut lines[at], b"\r"),
         Damage::CrEverywhere => lines.iter_mut().for_each(|line| before_lf(line, b"\r")),
-        Damage::TrailingTab => before_lf(&mut lines[at], b"\t"),
-        Damage::TrailingSpace => before_lf(&mut lines[at], b" "),
-        Damage::LeadingTab => lines[at].insert(0, b'\t'),
-        Damage::DoubleTab => edit_tab(&mut lines[at], b"\t\t", random),
-        Damage::SpaceForTab => edit_tab(&mut lines[at], b" ", random),
-        Damage::LeadingZero => edit_field(&mut lines[at], random, |field, _| {
-            field.insert(0, b'0');
-        }),
-        Damage::Sign => edit_field(&mut lines[at], random, |field, random| {
-            field.insert(0, random.pick(b"+-"));
-        }),
-        Damage::TooLongNumber => edit_field(&mut lines[at], random, |field, random| {
-            let longer: &[u8] = random.pick(&[
-                b"4294967296".as_slice(),
-                b"4294967297",
-                b"9999999999",
-                b"10000000000",
-                b"42949672950",
-                b"99999999999999999999999999999999999999999",
-            ]);
-            *field = longer.to_vec();
-        }),
-        Damage::WrappingNumber => edit_field(&mut lines[at], random, |field, random| {
-            // The same number again if only 32, 64 or 128 bits are kept.
-            let value = std::str::from_utf8(field).ok().and_then(|text| text.parse::<u128>().ok());
-            let value = value.unwrap_or(0) % (1 << 64);
-            *field = match random.below(3) {
-                0 => (value + (1 << 32)).to_string(),
-                1 => (value + (1 << 64)).to_string(),
-                _ => "340282366920938463463374607431768211456".to_string(),
-            }
-            .into_bytes();
-        }),
-        Damage::EmptyField => edit_field(&mut lines[at], random, |field, _| field.clear()),
-        Damage::EdgeField => edit_field(&mut lines[at], random, |field, random| {
-            let edge = random.pick(&[
-                0, 1, 2, 3, 7, 8, 31, 32, 33, 255, 256, 257, 65_535, 65_536, 65_537, TOP,
-            ]);
-            *field = edge.to_string().into_bytes();
-        }),
-        Damage::DropField => {
-            let cut = lines[at].iter().rposition(|&byte| byte == b'\t').unwrap_or(0);
-            lines[at].truncate(cut);
-            lines[at].push(b'\n');
-        }
-        Damage::ExtraField => before_lf(&mut lines[at], b"\t0"),
         Damage::DropLine => {
             lines.remove(at);
         }
         Damage::RepeatLine => lines.insert(at, lines[at].clone()),
-        Damage::SwapLines => {
-            let next = (at + 1) % lines.len();
-            lines.swap(at, next);
-        }
+        Damage::SwapLines => lines.swap(at, (at + 1) % end),
         Damage::MoveLine => {
             let line = lines.remove(at);
-            let to = random.index(lines.len() + 1);
-            lines.insert(to, line);
+            put_in(lines, 0, end - 1, &line, random);
         }
-        Damage::BlankLine => lines.insert(random.index(lines.len() + 1), b"\n".to_vec()),
+        Damage::BlankLine => put_in(lines, 0, end, b"\n", random),
         Damage::CutAtLine => lines.truncate(at),
         Damage::CutBeforeCore => lines.truncate(core),
-        Damage::CutAtByte => {
-            let cut = random.index(text.len() + 1);
-            return text[..cut].to_vec();
-        }
-        Damage::FlipByte | Damage::InsertByte | Damage::DeleteByte => {
-            return edit_byte(text, way, random)
+        Damage::ManyCells => many_cells(lines, random),
+        Damage::SecondCore => put_in(lines, core, end, b"core\t0\t0\t0\n", random),
+        Damage::SecondSize => put_in(lines, 0, end, b"size\t1\t16\n", random),
+        Damage::DoBeforeCore => put_in(lines, 0, core, b"do\t0\t0\t0\t0\n", random),
+        _ => damage_line(&mut lines[at], way, random),
+    }
+}
+
+/// Puts a line in between two places, both included.
+fn put_in(lines: &mut Vec<Vec<u8>>, low: usize, high: usize, line: &[u8], random: &mut Random) {
+    let to = random.between(low as u64, high as u64) as usize;
+    lines.insert(to, line.to_vec());
+}
+
+/// Up to 256 or 257 `cell` lines, so that the last is right or wrong.
+fn many_cells(lines: &mut Vec<Vec<u8>>, random: &mut Random) {
+    let is_cell = |line: &Vec<u8>| line.starts_with(b"cell\t");
+    let there = lines.iter().filter(|line| is_cell(line)).count();
+    let after = lines.iter().rposition(is_cell).map_or(2.min(lines.len()), |at| at + 1);
+    let wanted = random.pick(&[MOST_CELLS, MOST_CELLS + 1, MOST_CELLS + 1]);
+    for _ in there..wanted {
+        lines.insert(after, b"cell\t1\t0\t0\t0\n".to_vec());
+    }
+}
+
+/// The ways that alter one line; all others are for one of its fields.
+fn damage_line(line: &mut Vec<u8>, way: Damage, random: &mut Random) {
+    match way {
+        Damage::CrBeforeLf => before_lf(line, b"\r"),
+        Damage::TrailingTab => before_lf(line, b"\t"),
+        Damage::TrailingSpace => before_lf(line, b" "),
+        Damage::ExtraField => before_lf(line, b"\t0"),
+        Damage::LeadingTab => line.insert(0, b'\t'),
+        Damage::DoubleTab => edit_tab(line, b"\t\t", random),
+        Damage::SpaceForTab => edit_tab(line, b" ", random),
+        Damage::DropField => {
+            let cut = line.iter().rposition(|&byte| byte == b'\t').unwrap_or(0);
+            line.truncate(cut);
+            line.push(b'\n');
         }
         Damage::Keyword => {
-            let word: &[u8] = random.pick(&[
-                b"Cells".as_slice(),
-                b"cell",
-                b"cells",
-                b"right",
-                b"grant",
-                b"byte",
-                b"core",
-                b"do",
-                b"d",
-                b"doo",
-                b"size",
-                b"",
-                b"#",
-                b"answer",
-                b"mark",
-            ]);
-            let cut = lines[at].iter().position(|&byte| byte == b'\t').unwrap_or(0);
-            lines[at].splice(..cut, word.iter().copied());
+            let word: &[u8] = random.pick(&WORDS);
+            let cut = line.iter().position(|&byte| byte == b'\t').unwrap_or(0);
+            line.splice(..cut, word.iter().copied());
         }
-        Damage::ManyCells => {
-            // Up to 256 or 257 `cell` lines, so that the last is right or wrong.
-            let is_cell = |line: &Vec<u8>| line.starts_with(b"cell\t");
-            let there = lines.iter().filter(|line| is_cell(line)).count();
-            let after = lines.iter().rposition(is_cell).map_or(2.min(lines.len()), |at| at + 1);
-            let wanted = random.pick(&[MOST_CELLS, MOST_CELLS + 1, MOST_CELLS + 1]);
-            for _ in there..wanted {
-                lines.insert(after, b"cell\t1\t0\t0\t0\n".to_vec());
-            }
-        }
-        Damage::SecondCore => {
-            let to = random.between(core.min(lines.len()) as u64, lines.len() as u64) as usize;
-            lines.insert(to, b"core\t0\t0\t0\n".to_vec());
-        }
-        Damage::SecondSize => {
-            lines.insert(random.index(lines.len() + 1), b"size\t1\t16\n".to_vec());
-        }
-        Damage::DoBeforeCore => {
-            let to = random.index(core.min(lines.len()) + 1);
-            lines.insert(to, b"do\t0\t0\t0\t0\n".to_vec());
-        }
-        Damage::ExactLength | Damage::TooLong => {
-            let length = MOST_TEXT + usize::from(way == Damage::TooLong);
-            let mut longer = text.to_vec();
-            lengthen(&mut longer, length, random);
-            return longer;
-        }
-        Damage::Noise => {
-            let length = random.index(200);
-            let signs = b"0123456789\t\n\r cellsizerightgrantbytecoredo\0\xff";
-            return (0..length).map(|_| random.pick(signs)).collect();
-        }
+        _ => edit_field(line, way, random),
     }
-    lines.concat()
 }
+
+/// Words that a line may begin with by mistake, some of them right elsewhere.
+const WORDS: [&[u8]; 15] = [
+    b"Cells", b"cell", b"cells", b"right", b"grant", b"byte", b"core", b"do", b"d", b"doo",
+    b"size", b"", b"#", b"answer", b"mark",
+];
 
 /// Puts bytes before a line's LF, or at its end if it has none.
 fn before_lf(line: &mut Vec<u8>, bytes: &[u8]) {
@@ -1388,12 +1444,8 @@ fn edit_tab(line: &mut Vec<u8>, bytes: &[u8], random: &mut Random) {
     line.splice(at..at + 1, bytes.iter().copied());
 }
 
-/// Alters one of a line's fields after its word.
-fn edit_field(
-    line: &mut Vec<u8>,
-    random: &mut Random,
-    alter: impl FnOnce(&mut Vec<u8>, &mut Random),
-) {
+/// Damages one of a line's fields after its word.
+fn edit_field(line: &mut Vec<u8>, way: Damage, random: &mut Random) {
     let ended = line.ends_with(b"\n");
     if ended {
         line.pop();
@@ -1402,11 +1454,48 @@ fn edit_field(
         line.split(|&byte| byte == b'\t').map(<[u8]>::to_vec).collect();
     if fields.len() > 1 {
         let at = 1 + random.index(fields.len() - 1);
-        alter(&mut fields[at], random);
+        damage_field(&mut fields[at], way, random);
     }
     *line = fields.join(&b'\t');
     if ended {
         line.push(b'\n');
+    }
+}
+
+/// The ways that alter one field; no others are left.
+fn damage_field(field: &mut Vec<u8>, way: Damage, random: &mut Random) {
+    match way {
+        Damage::LeadingZero => field.insert(0, b'0'),
+        Damage::Sign => field.insert(0, random.pick(b"+-")),
+        Damage::TooLongNumber => *field = random.pick(&TOO_LONG_NUMBERS).to_vec(),
+        Damage::WrappingNumber => *field = wrapping_number(field, random).into_bytes(),
+        Damage::EmptyField => field.clear(),
+        Damage::EdgeField => *field = random.pick(&EDGES).to_string().into_bytes(),
+        _ => unreachable!("{way:?} is not done to a field"),
+    }
+}
+
+const TOO_LONG_NUMBERS: [&[u8]; 6] = [
+    b"4294967296",
+    b"4294967297",
+    b"9999999999",
+    b"10000000000",
+    b"42949672950",
+    b"99999999999999999999999999999999999999999",
+];
+
+/// Numbers at and about the bounds of the fields of all lines.
+const EDGES: [u32; 16] =
+    [0, 1, 2, 3, 7, 8, 31, 32, 33, 255, 256, 257, 65_535, 65_536, 65_537, TOP];
+
+/// The field's number again if only 32, 64 or 128 bits are kept.
+fn wrapping_number(field: &[u8], random: &mut Random) -> String {
+    let value = std::str::from_utf8(field).ok().and_then(|text| text.parse::<u128>().ok());
+    let value = value.unwrap_or(0) % (1 << 64);
+    match random.below(3) {
+        0 => (value + (1 << 32)).to_string(),
+        1 => (value + (1 << 64)).to_string(),
+        _ => "340282366920938463463374607431768211456".to_string(),
     }
 }
 

@@ -275,105 +275,141 @@ pub fn execute_checked(
     answer(outcome)
 }
 
-/// Checks from 6 on, then the effect. In every arm nothing is written before
-/// the last check has passed.
+/// Checks from 6 on, then the effect; the answer's value. In the function of
+/// every kind nothing is written before the last check has passed.
 fn perform(t: &mut Tables, r: &mut Registers, instruction: Instruction) -> Result<u32, u32> {
     let d = r.current as usize;
     match instruction {
-        Instruction::Load { address } => {
-            let cell = valid_cell(t, address)?;
-            need(t.rights[t.entry(cell, d)], READ)?;
-            Ok(u32::from(t.memory[t.place(cell, address)]))
+        Instruction::Load { address } => load(t, d, address),
+        Instruction::Store { address, byte } => store(t, d, address, byte),
+        Instruction::Fetch { address } => fetch(t, d, address),
+        Instruction::Switch { address, division } => switch(t, r, address, division),
+        Instruction::Protect { address, rights } => protect(t, d, address, rights),
+        Instruction::Grant { address, division, rights } => grant(t, d, address, division, rights),
+        Instruction::Receive { address, division } => receive(t, d, address, division),
+        Instruction::Transfer { address, division, rights } => {
+            transfer(t, d, address, division, rights)
         }
-        Instruction::Store { address, byte } => {
-            let cell = valid_cell(t, address)?;
-            need(t.rights[t.entry(cell, d)], WRITE)?;
-            let place = t.place(cell, address);
-            t.memory[place] = byte;
-            Ok(0)
-        }
-        Instruction::Fetch { address } => {
-            let cell = valid_cell(t, address)?;
-            whole_word(t, cell, address)?;
-            need(t.rights[t.entry(cell, d)], EXECUTE)?;
-            Ok(t.word(cell, address))
-        }
-        Instruction::Switch { address, division } => {
-            let cell = valid_cell(t, address)?;
-            whole_word(t, cell, address)?;
-            // The target's right counts here, not the switcher's.
-            need(t.rights[t.entry(cell, division as usize)], EXECUTE)?;
-            if t.word(cell, address) != ENTRY_WORD {
-                return Err(NOT_ENTRY);
-            }
-            let before = r.current;
-            *r = Registers { current: division, caller: before, place: address };
-            Ok(before)
-        }
-        Instruction::Protect { address, rights } => {
-            let cell = valid_cell(t, address)?;
+        Instruction::Invalidate { address } => invalidate(t, d, address),
+        Instruction::Revalidate { address } => revalidate(t, d, address),
+        Instruction::Exclusive { address } => exclusive(t, d, address),
+    }
+}
+
+fn load(t: &Tables, d: usize, address: u32) -> Result<u32, u32> {
+    let cell = valid_cell(t, address)?;
+    need(t.rights[t.entry(cell, d)], READ)?;
+    Ok(u32::from(t.memory[t.place(cell, address)]))
+}
+
+fn store(t: &mut Tables, d: usize, address: u32, byte: u8) -> Result<u32, u32> {
+    let cell = valid_cell(t, address)?;
+    need(t.rights[t.entry(cell, d)], WRITE)?;
+    let place = t.place(cell, address);
+    t.memory[place] = byte;
+    Ok(0)
+}
+
+fn fetch(t: &Tables, d: usize, address: u32) -> Result<u32, u32> {
+    let cell = valid_cell(t, address)?;
+    whole_word(t, cell, address)?;
+    need(t.rights[t.entry(cell, d)], EXECUTE)?;
+    Ok(t.word(cell, address))
+}
+
+fn switch(t: &Tables, r: &mut Registers, address: u32, division: u32) -> Result<u32, u32> {
+    let cell = valid_cell(t, address)?;
+    whole_word(t, cell, address)?;
+    // The target's right counts here, not the switcher's.
+    need(t.rights[t.entry(cell, division as usize)], EXECUTE)?;
+    if t.word(cell, address) != ENTRY_WORD {
+        return Err(NOT_ENTRY);
+    }
+    let before = r.current;
+    *r = Registers { current: division, caller: before, place: address };
+    Ok(before)
+}
+
+fn protect(t: &mut Tables, d: usize, address: u32, rights: u8) -> Result<u32, u32> {
+    let cell = valid_cell(t, address)?;
+    let own = t.entry(cell, d);
+    need(t.rights[own], rights)?;
+    if t.rights[own] == rights {
+        return Err(SAME_RIGHTS);
+    }
+    t.rights[own] = rights;
+    Ok(u32::from(rights))
+}
+
+fn grant(t: &mut Tables, d: usize, address: u32, division: u32, rights: u8) -> Result<u32, u32> {
+    let own = make_grant(t, d, address, division, rights)?;
+    Ok(u32::from(t.rights[own]))
+}
+
+/// As grant, then the rights go. They must stay until every check has passed,
+/// and a grant that has been made has passed them all.
+fn transfer(t: &mut Tables, d: usize, address: u32, division: u32, rights: u8) -> Result<u32, u32> {
+    let own = make_grant(t, d, address, division, rights)?;
+    t.rights[own] = 0;
+    Ok(0)
+}
+
+/// What grant and transfer have in common; the granter's entry.
+fn make_grant(
+    t: &mut Tables,
+    d: usize,
+    address: u32,
+    division: u32,
+    rights: u8,
+) -> Result<usize, u32> {
+    let cell = valid_cell(t, address)?;
+    let own = t.entry(cell, d);
+    need(t.rights[own], rights)?;
+    t.grants[own] = grant_entry(division, rights);
+    Ok(own)
+}
+
+fn receive(t: &mut Tables, d: usize, address: u32, division: u32) -> Result<u32, u32> {
+    let cell = valid_cell(t, address)?;
+    let source = t.entry(cell, division as usize);
+    match grant_parts(t.grants[source]) {
+        Some((target, rights)) if target as usize == d => {
             let own = t.entry(cell, d);
-            need(t.rights[own], rights)?;
-            if t.rights[own] == rights {
-                return Err(SAME_RIGHTS);
-            }
-            t.rights[own] = rights;
-            Ok(u32::from(rights))
-        }
-        Instruction::Grant { address, division, rights } => {
-            let cell = valid_cell(t, address)?;
-            let own = t.entry(cell, d);
-            need(t.rights[own], rights)?;
-            t.grants[own] = grant_entry(division, rights);
+            t.rights[own] |= rights;
+            t.grants[source] = 0;
             Ok(u32::from(t.rights[own]))
         }
-        Instruction::Receive { address, division } => {
-            let cell = valid_cell(t, address)?;
-            let source = t.entry(cell, division as usize);
-            match grant_parts(t.grants[source]) {
-                Some((target, rights)) if target == r.current => {
-                    let own = t.entry(cell, d);
-                    t.rights[own] |= rights;
-                    t.grants[source] = 0;
-                    Ok(u32::from(t.rights[own]))
-                }
-                _ => Err(NO_GRANT),
-            }
-        }
-        Instruction::Transfer { address, division, rights } => {
-            let cell = valid_cell(t, address)?;
-            let own = t.entry(cell, d);
-            need(t.rights[own], rights)?;
-            t.grants[own] = grant_entry(division, rights);
-            t.rights[own] = 0;
-            Ok(0)
-        }
-        Instruction::Invalidate { address } => {
-            let cell = valid_cell(t, address)?;
-            let held = t.rights[t.entry(cell, d)];
-            need_any(held)?;
-            if another_holds(t, cell, d) {
-                return Err(ANOTHER_HOLDS);
-            }
-            t.marks[cell] = 0;
-            Ok(u32::from(held))
-        }
-        Instruction::Revalidate { address } => {
-            let cell = covering_cell(t, address)?;
-            if t.marks[cell] != 0 {
-                return Err(VALIDITY);
-            }
-            let held = t.rights[t.entry(cell, d)];
-            need_any(held)?;
-            t.marks[cell] = 1;
-            Ok(u32::from(held))
-        }
-        Instruction::Exclusive { address } => {
-            let cell = valid_cell(t, address)?;
-            need_any(t.rights[t.entry(cell, d)])?;
-            Ok(u32::from(!another_holds(t, cell, d)))
-        }
+        _ => Err(NO_GRANT),
     }
+}
+
+fn invalidate(t: &mut Tables, d: usize, address: u32) -> Result<u32, u32> {
+    let cell = valid_cell(t, address)?;
+    let held = t.rights[t.entry(cell, d)];
+    need_any(held)?;
+    if another_holds(t, cell, d) {
+        return Err(ANOTHER_HOLDS);
+    }
+    t.marks[cell] = 0;
+    Ok(u32::from(held))
+}
+
+fn revalidate(t: &mut Tables, d: usize, address: u32) -> Result<u32, u32> {
+    // Here check 7 is the other way round, so `valid_cell` is of no use.
+    let cell = covering_cell(t, address)?;
+    if t.marks[cell] != 0 {
+        return Err(VALIDITY);
+    }
+    let held = t.rights[t.entry(cell, d)];
+    need_any(held)?;
+    t.marks[cell] = 1;
+    Ok(u32::from(held))
+}
+
+fn exclusive(t: &Tables, d: usize, address: u32) -> Result<u32, u32> {
+    let cell = valid_cell(t, address)?;
+    need_any(t.rights[t.entry(cell, d)])?;
+    Ok(u32::from(!another_holds(t, cell, d)))
 }
 
 // ---------------------------------------------------------------------------

@@ -75,67 +75,82 @@ fn slow_check(t: &Tables) -> (u32, u32) {
 type Outcome = ((u32, u32), Vec<u8>, Tables, Registers);
 
 fn slow(t: &Tables, r: &Registers, call: &Call) -> Outcome {
-    let refuse = |number: u32, value: u32| ((number, value), Vec::new(), t.clone(), *r);
+    let refuse = |refusal: (u32, u32)| (refusal, Vec::new(), t.clone(), *r);
     let found = slow_check(t);
     if found.0 != 0 {
-        return refuse(found.0, found.1);
+        return refuse(found);
     }
+    let outcome = slow_cell(t, r, call).and_then(|cell| slow_effect(t, r, call, cell));
+    outcome.unwrap_or_else(|number| refuse((number, 0)))
+}
+
+/// Checks 3 to 9 in their order; the cell that covers the address.
+fn slow_cell(t: &Tables, r: &Registers, call: &Call) -> Result<usize, u32> {
+    let refuse_if = |failed: bool, number: u32| if failed { Err(number) } else { Ok(()) };
     let m = t.m as u64;
-    if u64::from(r.current) >= m || u64::from(r.caller) >= m {
-        return refuse(3, 0);
-    }
-    let d = r.current as usize;
+    refuse_if(u64::from(r.current) >= m || u64::from(r.caller) >= m, 3)?;
     if let Call::Execute { number, y, z, .. } = *call {
-        if number > 10 {
-            return refuse(4, 0);
-        }
-        let division = u64::from(y) < m;
-        let other = division && y != r.current;
-        let fine = match number {
-            1 => y < 256 && z == 0,
-            3 => division && z == 0,
-            4 => y < 8 && z == 0,
-            5 | 7 => other && z > 0 && z < 8,
-            6 => other && z == 0,
-            _ => y == 0 && z == 0,
-        };
-        if !fine {
-            return refuse(5, 0);
-        }
+        refuse_if(number > 10, 4)?;
+        refuse_if(!slow_operands_right(m, r.current, [number, y, z]), 5)?;
     }
-    let x = match *call {
-        Call::Execute { x, .. } | Call::WriteBlock { x, .. } | Call::View { x, .. } => x,
-    };
+    let x = address(call);
     let covering: Vec<usize> =
         (0..t.first.len()).filter(|&cell| t.first[cell] <= x && x <= t.last[cell]).collect();
     let cell = match covering[..] {
-        [] => return refuse(6, 0),
+        [] => return Err(6),
         [cell] => cell,
         _ => panic!("two cells cover {x} in sound tables"),
     };
     let wanted_mark = if matches!(call, Call::Execute { number: 9, .. }) { 0 } else { 1 };
-    if t.marks[cell] != wanted_mark {
-        return refuse(7, 0);
+    refuse_if(t.marks[cell] != wanted_mark, 7)?;
+    refuse_if(slow_beyond(i128::from(t.last[cell]), call), 8)?;
+    refuse_if(slow_lacking(t, r, call, cell), 9)?;
+    Ok(cell)
+}
+
+fn address(call: &Call) -> u32 {
+    match *call {
+        Call::Execute { x, .. } | Call::WriteBlock { x, .. } | Call::View { x, .. } => x,
     }
-    // Check 8, with the length or the four bytes of a word.
-    let last = i128::from(t.last[cell]);
-    let beyond = match *call {
-        Call::Execute { number: 2 | 3, .. } => x % 4 != 0 || i128::from(x) + 3 > last,
+}
+
+fn slow_operands_right(m: u64, d: u32, [number, y, z]: [u32; 3]) -> bool {
+    let division = u64::from(y) < m;
+    let other = division && y != d;
+    match number {
+        1 => y < 256 && z == 0,
+        3 => division && z == 0,
+        4 => y < 8 && z == 0,
+        5 | 7 => other && z > 0 && z < 8,
+        6 => other && z == 0,
+        _ => y == 0 && z == 0,
+    }
+}
+
+/// Whether check 8 fails, with the length or the four bytes of a word.
+fn slow_beyond(last: i128, call: &Call) -> bool {
+    let runs_past = |x: u32, length: usize| i128::from(x) + length as i128 - 1 > last;
+    match *call {
+        Call::Execute { number: 2 | 3, x, .. } => x % 4 != 0 || runs_past(x, 4),
         Call::Execute { .. } => false,
-        Call::WriteBlock { ref bytes, .. } => i128::from(x) + bytes.len() as i128 - 1 > last,
-        Call::View { n, .. } => n != 0 && i128::from(x) + n as i128 - 1 > last,
-    };
-    if beyond && !matches!(call, Call::WriteBlock { bytes, .. } if bytes.is_empty()) {
-        return refuse(8, 0);
+        Call::WriteBlock { x, ref bytes } => !bytes.is_empty() && runs_past(x, bytes.len()),
+        Call::View { x, n } => n != 0 && runs_past(x, n),
     }
-    let rights = |division: usize| set(u32::from(t.rights[cell * t.m + division]));
-    let own = rights(d);
-    let lacking = match *call {
+}
+
+fn slow_rights(t: &Tables, cell: usize, division: usize) -> Set {
+    set(u32::from(t.rights[cell * t.m + division]))
+}
+
+/// Whether check 9 fails.
+fn slow_lacking(t: &Tables, r: &Registers, call: &Call, cell: usize) -> bool {
+    let own = slow_rights(t, cell, r.current as usize);
+    match *call {
         Call::Execute { number, y, z, .. } => match number {
             0 => !own.contains(&1),
             1 => !own.contains(&2),
             2 => !own.contains(&4),
-            3 => !rights(y as usize).contains(&4),
+            3 => !slow_rights(t, cell, y as usize).contains(&4),
             4 => !set(y).is_subset(&own),
             5 | 7 => !set(z).is_subset(&own),
             6 => false,
@@ -143,88 +158,89 @@ fn slow(t: &Tables, r: &Registers, call: &Call) -> Outcome {
         },
         Call::WriteBlock { .. } => !own.contains(&2),
         Call::View { .. } => !own.contains(&1),
-    };
-    if lacking {
-        return refuse(9, 0);
     }
-    let begin = (i128::from(t.offset[cell]) + i128::from(x) - i128::from(t.first[cell])) as usize;
-    let alone = (0..t.m).all(|division| division == d || rights(division).is_empty());
-    let (mut after, mut registers) = (t.clone(), *r);
-    let mut seen = Vec::new();
-    let mut set_right = |division: usize, rights: &Set| {
-        after.rights[cell * t.m + division] = sum(rights) as u8;
-    };
-    let value = match *call {
+}
+
+/// What comes of a call that has passed check 9.
+fn slow_effect(t: &Tables, r: &Registers, call: &Call, cell: usize) -> Result<Outcome, u32> {
+    let x = i128::from(address(call));
+    let begin = (i128::from(t.offset[cell]) + x - i128::from(t.first[cell])) as usize;
+    match *call {
         Call::WriteBlock { ref bytes, .. } => {
-            after.memory = (0..t.memory.len())
-                .map(|place| match place.checked_sub(begin).and_then(|at| bytes.get(at)) {
-                    Some(&byte) => byte,
-                    None => t.memory[place],
-                })
-                .collect();
-            0
+            let memory = slow_written(&t.memory, begin, bytes);
+            Ok(((0, 0), Vec::new(), Tables { memory, ..t.clone() }, *r))
         }
         Call::View { n, .. } => {
-            seen = t.memory.iter().copied().skip(begin).take(n).collect();
-            0
+            let seen = t.memory.iter().copied().skip(begin).take(n).collect();
+            Ok(((0, 0), seen, t.clone(), *r))
+        }
+        Call::Execute { number: 3, x, y, .. } => {
+            if slow_word(&t.memory, begin) != 11 {
+                return Err(12);
+            }
+            let registers = Registers { current: y, caller: r.current, place: x };
+            Ok(((0, r.current), Vec::new(), t.clone(), registers))
         }
         Call::Execute { number, y, z, .. } => {
-            let word: u64 =
-                (0..4).map(|i| t.memory.get(begin + i).map_or(0, |&b| u64::from(b) << (8 * i))).sum();
-            let entry = |granter: u32| cell * t.m + granter as usize;
-            match number {
-                0 => u32::from(t.memory[begin]),
+            let (value, after) = match number {
+                0 => (u32::from(t.memory[begin]), t.clone()),
                 1 => {
-                    after.memory[begin] = y as u8;
-                    0
+                    let memory = slow_written(&t.memory, begin, &[y as u8]);
+                    (0, Tables { memory, ..t.clone() })
                 }
-                2 => word as u32,
-                3 => {
-                    if word != 11 {
-                        return refuse(12, 0);
-                    }
-                    registers = Registers { current: y, caller: r.current, place: x };
-                    r.current
-                }
-                4 => {
-                    if set(y) == own {
-                        return refuse(13, 0);
-                    }
-                    set_right(d, &set(y));
-                    y
-                }
-                5 | 7 => {
-                    let left = if number == 5 { own } else { Set::new() };
-                    set_right(d, &left);
-                    after.grants[entry(r.current)] = (y + 256 * z) as u16;
-                    sum(&left)
-                }
-                6 => {
-                    let made = u32::from(t.grants[entry(y)]);
-                    if made == 0 || made % 256 != r.current {
-                        return refuse(10, 0);
-                    }
-                    let joined: Set = own.union(&set(made / 256)).copied().collect();
-                    set_right(d, &joined);
-                    after.grants[entry(y)] = 0;
-                    sum(&joined)
-                }
-                8 => {
-                    if !alone {
-                        return refuse(11, 0);
-                    }
-                    after.marks[cell] = 0;
-                    sum(&own)
-                }
-                9 => {
-                    after.marks[cell] = 1;
-                    sum(&own)
-                }
-                _ => u32::from(alone),
-            }
+                2 => (slow_word(&t.memory, begin), t.clone()),
+                _ => slow_tables_after(t, r.current, cell, [number, y, z])?,
+            };
+            Ok(((0, value), Vec::new(), after, *r))
         }
+    }
+}
+
+fn slow_written(memory: &[u8], begin: usize, bytes: &[u8]) -> Vec<u8> {
+    let new = |place: usize| bytes.get(place.checked_sub(begin)?).copied();
+    (0..memory.len()).map(|place| new(place).unwrap_or(memory[place])).collect()
+}
+
+fn slow_word(memory: &[u8], begin: usize) -> u32 {
+    (0..4).map(|i| u32::from(memory[begin + i]) << (8 * i)).sum()
+}
+
+/// Value and tables after an instruction from protect on.
+fn slow_tables_after(
+    t: &Tables,
+    d: u32,
+    cell: usize,
+    [number, y, z]: [u32; 3],
+) -> Result<(u32, Tables), u32> {
+    let entry = |division: u32| cell * t.m + division as usize;
+    let own = slow_rights(t, cell, d as usize);
+    let alone = (0..t.m)
+        .all(|division| division == d as usize || slow_rights(t, cell, division).is_empty());
+    let mut after = t.clone();
+    let left = match number {
+        4 if set(y) == own => return Err(13),
+        4 => set(y),
+        5 | 7 => {
+            after.grants[entry(d)] = (y + 256 * z) as u16;
+            if number == 5 { own } else { Set::new() }
+        }
+        6 => {
+            let made = u32::from(t.grants[entry(y)]);
+            if made == 0 || made % 256 != d {
+                return Err(10);
+            }
+            after.grants[entry(y)] = 0;
+            own.union(&set(made / 256)).copied().collect()
+        }
+        8 if !alone => return Err(11),
+        8 | 9 => {
+            after.marks[cell] = if number == 8 { 0 } else { 1 };
+            own
+        }
+        _ => return Ok((u32::from(alone), after)),
     };
-    ((0, value), seen, after, registers)
+    after.rights[entry(d)] = sum(&left) as u8;
+    Ok((sum(&left), after))
 }
 
 fn compare_call(t: &mut Tables, r: &mut Registers, call: &Call, seed: u64) -> (u32, u32) {
@@ -313,52 +329,49 @@ fn random_alterations_compared() {
     assert!(sound > 1000, "{sound}");
 }
 
+/// Which edges tables as a whole meet.
+fn edges_of_tables(t: &Tables) -> [(&'static str, bool); 7] {
+    let n = t.first.len();
+    let end = |cell: usize| t.offset[cell] + (t.last[cell] - t.first[cell]);
+    [
+        ("full", t.m == 32 && n == 256 && t.memory.len() == 65_536),
+        ("no cells", n == 0),
+        ("no memory", t.memory.is_empty()),
+        ("one division", t.m == 1 && n > 0),
+        ("top", t.last.last() == Some(&u32::MAX)),
+        ("bottom", t.first.first() == Some(&0)),
+        ("exact end", n > 0 && end(n - 1) as usize + 1 == t.memory.len()),
+    ]
+}
+
+/// Which edges one cell meets.
+fn edges_of_cell(t: &Tables, cell: usize) -> [(&'static str, bool); 5] {
+    let rights = &t.rights[cell * t.m..][..t.m];
+    let grants = &t.grants[cell * t.m..][..t.m];
+    let holders = rights.iter().filter(|&&held| held > 0).count();
+    // 0 for the cell that has none before it.
+    let gap = if cell == 0 { 0 } else { t.first[cell] - t.last[cell - 1] };
+    [
+        ("lone", t.marks[cell] == 0 && holders == 1),
+        ("granted", grants.iter().any(|&entry| entry > 0)),
+        ("odd offset", t.first[cell] % 4 != t.offset[cell] % 4),
+        ("adjacent", gap == 1),
+        ("apart", gap > 1),
+    ]
+}
+
 #[test]
 fn the_generator_reaches_the_edges() {
-    let (mut full, mut top, mut bottom, mut adjacent, mut apart) = (0, 0, 0, 0, 0);
-    let (mut lone, mut granted, mut no_cells, mut no_memory, mut one_division) = (0, 0, 0, 0, 0);
-    let (mut exact_end, mut odd_offset) = (0, 0);
+    let mut counts: BTreeMap<&str, u32> = BTreeMap::new();
     for seed in 0..2000 {
         let (t, _) = gen::tables(seed);
-        let n = t.first.len();
-        full += u32::from(t.m == 32 && n == 256 && t.memory.len() == 65_536);
-        no_cells += u32::from(n == 0);
-        no_memory += u32::from(t.memory.is_empty());
-        one_division += u32::from(t.m == 1 && n > 0);
-        top += u32::from(t.last.last() == Some(&u32::MAX));
-        bottom += u32::from(t.first.first() == Some(&0));
-        for cell in 0..n {
-            let holders = t.rights[cell * t.m..][..t.m].iter().filter(|&&held| held > 0).count();
-            lone += u32::from(t.marks[cell] == 0 && holders == 1);
-            granted += u32::from(t.grants[cell * t.m..][..t.m].iter().any(|&entry| entry > 0));
-            odd_offset += u32::from(t.first[cell] % 4 != t.offset[cell] % 4);
-            if cell > 0 {
-                let gap = t.first[cell] - t.last[cell - 1];
-                adjacent += u32::from(gap == 1);
-                apart += u32::from(gap > 1);
-            }
-        }
-        if n > 0 {
-            let end = t.offset[n - 1] + (t.last[n - 1] - t.first[n - 1]);
-            exact_end += u32::from(end as usize + 1 == t.memory.len());
+        let cells = (0..t.first.len()).flat_map(|cell| edges_of_cell(&t, cell));
+        for (edge, met) in edges_of_tables(&t).into_iter().chain(cells) {
+            *counts.entry(edge).or_insert(0) += u32::from(met);
         }
     }
-    for (what, count) in [
-        ("full", full),
-        ("top", top),
-        ("bottom", bottom),
-        ("adjacent", adjacent),
-        ("apart", apart),
-        ("lone", lone),
-        ("granted", granted),
-        ("no cells", no_cells),
-        ("no memory", no_memory),
-        ("one division", one_division),
-        ("exact end", exact_end),
-        ("odd offset", odd_offset),
-    ] {
-        assert!(count >= 10, "{what}: {count}");
-    }
+    assert_eq!(counts.len(), 12);
+    assert!(counts.values().all(|&count| count >= 10), "{counts:?}");
 }
 
 // ---------------------------------------------------------------------------
@@ -375,9 +388,12 @@ const KINDS: [(&str, usize); 8] = [
     ("do", 4),
 ];
 
+/// A line's kind and numbers.
+type Line = (usize, Vec<u64>);
+
 /// A right line's kind and numbers, or nothing. A number is what decimal
 /// writing gives back unchanged.
-fn slow_line(line: &str) -> Option<(usize, Vec<u64>)> {
+fn slow_line(line: &str) -> Option<Line> {
     let mut fields = line.split('\t');
     let word = fields.next()?;
     let kind = KINDS.iter().position(|&(name, _)| name == word)?;
@@ -393,7 +409,7 @@ fn slow_line(line: &str) -> Option<(usize, Vec<u64>)> {
 }
 
 /// Whether a line is right after the lines before it.
-fn slow_line_right(before: &[(usize, Vec<u64>)], kind: usize, numbers: &[u64]) -> bool {
+fn slow_line_right(before: &[Line], kind: usize, numbers: &[u64]) -> bool {
     let count = |wanted: usize| before.iter().filter(|line| line.0 == wanted).count();
     // What must stand before has been seen, and nothing that comes after has.
     if before.iter().any(|line| line.0 > kind) {
@@ -433,55 +449,86 @@ fn slow_line_right(before: &[(usize, Vec<u64>)], kind: usize, numbers: &[u64]) -
 }
 
 fn slow_listing(text: &[u8]) -> String {
-    let bad = |line: usize| format!("cells\t1\nbad\t{line}\n");
+    match slow_lines(text) {
+        Ok(lines) => slow_run(&lines),
+        Err(line) => format!("cells\t1\nbad\t{line}\n"),
+    }
+}
+
+/// The lines of a right text; for a wrong one the number after `bad`.
+fn slow_lines(text: &[u8]) -> Result<Vec<Line>, usize> {
     if text.len() > 65_536 {
-        return bad(0);
+        return Err(0);
     }
     // Each byte as one sign, so that no byte text is beyond a string.
     let text: String = text.iter().map(|&byte| char::from(byte)).collect();
     let mut pieces: Vec<&str> = text.split('\n').collect();
     // What stands after the last LF is a line without its LF, unless empty.
     let unended = pieces.pop().unwrap_or("");
-    let mut lines: Vec<(usize, Vec<u64>)> = Vec::new();
+    let mut lines: Vec<Line> = Vec::new();
     for (i, piece) in pieces.iter().enumerate() {
         match slow_line(piece) {
             Some((kind, numbers)) if slow_line_right(&lines, kind, &numbers) => {
                 lines.push((kind, numbers))
             }
-            _ => return bad(i + 1),
+            _ => return Err(i + 1),
         }
     }
     if !unended.is_empty() || !lines.iter().any(|line| line.0 == 6) {
-        return bad(pieces.len() + 1);
+        return Err(pieces.len() + 1);
     }
-    let of = |kind: usize| lines.iter().filter(move |line| line.0 == kind).map(|line| &line.1);
-    let size = of(1).next().unwrap();
-    let core = of(6).next().unwrap();
-    let (m, n) = (size[0] as usize, of(2).count());
-    let column = |at: usize| of(2).map(|numbers| numbers[at] as u32).collect::<Vec<u32>>();
-    let mut t = Tables {
-        m,
+    Ok(lines)
+}
+
+/// The numbers of the lines of one kind.
+fn of(lines: &[Line], kind: usize) -> impl Iterator<Item = &Vec<u64>> {
+    lines.iter().filter(move |line| line.0 == kind).map(|line| &line.1)
+}
+
+/// Zeros but for the entries that the lines of one kind name, each by its place
+/// and its value.
+fn slow_list(
+    lines: &[Line],
+    kind: usize,
+    length: u64,
+    entry: impl Fn(&[u64]) -> (u64, u64),
+) -> Vec<u64> {
+    let mut list = vec![0; length as usize];
+    for line in of(lines, kind) {
+        let (place, value) = entry(line);
+        list[place as usize] = value;
+    }
+    list
+}
+
+/// The state that the lines before the steps describe.
+fn slow_state(lines: &[Line]) -> (Tables, Registers) {
+    let size = of(lines, 1).next().unwrap();
+    let core = of(lines, 6).next().unwrap();
+    let (m, l, n) = (size[0], size[1], of(lines, 2).count() as u64);
+    let bytes = |list: Vec<u64>| list.into_iter().map(|entry| entry as u8).collect();
+    let column = |at: usize| of(lines, 2).map(move |line| line[at] as u32).collect();
+    let made = |line: &[u64]| line[2] + 256 * line[3];
+    let grants = slow_list(lines, 4, n * m, |line| (line[0] * m + line[1], made(line)));
+    let t = Tables {
+        m: m as usize,
         first: column(0),
         last: column(1),
         offset: column(2),
-        marks: column(3).into_iter().map(|mark| mark as u8).collect(),
-        rights: vec![0; n * m],
-        grants: vec![0; n * m],
-        memory: vec![0; size[1] as usize],
+        marks: bytes(of(lines, 2).map(|line| line[3]).collect()),
+        rights: bytes(slow_list(lines, 3, n * m, |line| (line[0] * m + line[1], line[2]))),
+        grants: grants.into_iter().map(|entry| entry as u16).collect(),
+        memory: bytes(slow_list(lines, 5, l, |line| (line[0], line[1]))),
     };
-    for line in of(3) {
-        t.rights[line[0] as usize * m + line[1] as usize] = line[2] as u8;
-    }
-    for line in of(4) {
-        t.grants[line[0] as usize * m + line[1] as usize] = (line[2] + 256 * line[3]) as u16;
-    }
-    for line in of(5) {
-        t.memory[line[0] as usize] = line[1] as u8;
-    }
-    let mut r =
-        Registers { current: core[0] as u32, caller: core[1] as u32, place: core[2] as u32 };
+    let [current, caller, place] = [core[0], core[1], core[2]].map(|field| field as u32);
+    (t, Registers { current, caller, place })
+}
+
+/// What a right listing comes to.
+fn slow_run(lines: &[Line]) -> String {
+    let (mut t, mut r) = slow_state(lines);
     let mut out = "cells\t1\n".to_string();
-    for (i, line) in of(7).enumerate() {
+    for (i, line) in of(lines, 7).enumerate() {
         let [number, x, y, z] = [line[0], line[1], line[2], line[3]].map(|field| field as u32);
         let ((number, value), _, after, registers) =
             slow(&t, &r, &Call::Execute { number, x, y, z });
@@ -489,23 +536,21 @@ fn slow_listing(text: &[u8]) -> String {
         out += &format!("answer\t{}\t{number}\t{value}\n", i + 1);
     }
     out += &format!("core\t{}\t{}\t{}\n", r.current, r.caller, r.place);
-    for cell in 0..n {
-        for division in 0..m {
-            let rights = t.rights[cell * m + division];
-            if rights > 0 {
-                out += &format!("right\t{cell}\t{division}\t{rights}\n");
-            }
-        }
-    }
-    for cell in 0..n {
-        for from in 0..m {
-            let entry = t.grants[cell * m + from];
-            if entry > 0 {
-                out += &format!("grant\t{cell}\t{from}\t{}\t{}\n", entry % 256, entry / 256);
-            }
-        }
-    }
+    out += &slow_entry_lines(&t, |cell, division, entry| match t.rights[entry] {
+        0 => String::new(),
+        rights => format!("right\t{cell}\t{division}\t{rights}\n"),
+    });
+    out += &slow_entry_lines(&t, |cell, from, entry| match t.grants[entry] {
+        0 => String::new(),
+        made => format!("grant\t{cell}\t{from}\t{}\t{}\n", made % 256, made / 256),
+    });
     out
+}
+
+/// What is written for each cell, division and entry, in order.
+fn slow_entry_lines(t: &Tables, written: impl Fn(usize, usize, usize) -> String) -> String {
+    let pairs = (0..t.first.len()).flat_map(|cell| (0..t.m).map(move |division| (cell, division)));
+    pairs.map(|(cell, division)| written(cell, division, cell * t.m + division)).collect()
 }
 
 fn compare_listing(text: &[u8], what: &str) -> String {

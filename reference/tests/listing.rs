@@ -198,42 +198,52 @@ fn missing_lf() {
 // ---------------------------------------------------------------------------
 // Signs and numbers
 
-#[test]
-fn carriage_returns_tabs_and_spaces_in_every_line() {
-    let lines: Vec<&str> = EVERY.lines().collect();
-    for (i, line) in lines.iter().enumerate() {
-        let number = i as u32 + 1;
-        for other in [
-            format!("{line}\r"),
-            format!("\r{line}"),
-            format!("{line}\t"),
-            format!("\t{line}"),
-            format!(" {line}"),
-            format!("{line} "),
-            line.replacen('\t', "\t\t", 1),
-            line.replacen('\t', " ", 1),
-            line.replacen('\t', "\t ", 1),
-            line.replacen('\t', "", 1),
-            line.to_uppercase(),
-            format!("{line}\t0"),
-            format!("{line}\t1"),
-            line[..line.rfind('\t').unwrap()].to_string(),
-            line[..line.rfind('\t').unwrap() + 1].to_string(),
-            String::new(),
-            "\t".to_string(),
-            "\r".to_string(),
-            "# remark".to_string(),
-        ] {
-            bad(with_line(i + 1, &other), number);
-        }
+/// Carriage returns, tabs, spaces and fields where a line must not have them.
+fn wrong_forms(line: &str) -> Vec<String> {
+    let last = line.rfind('\t').unwrap();
+    vec![
+        format!("{line}\r"),
+        format!("\r{line}"),
+        format!("{line}\t"),
+        format!("\t{line}"),
+        format!(" {line}"),
+        format!("{line} "),
+        line.replacen('\t', "\t\t", 1),
+        line.replacen('\t', " ", 1),
+        line.replacen('\t', "\t ", 1),
+        line.replacen('\t', "", 1),
+        line.to_uppercase(),
+        format!("{line}\t0"),
+        format!("{line}\t1"),
+        line[..last].to_string(),
+        line[..last + 1].to_string(),
         // A double tab at the last field as well.
-        let at = line.rfind('\t').unwrap();
-        bad(with_line(i + 1, &format!("{}\t{}", &line[..at], &line[at..])), number);
-        bad(with_more(i + 1, ""), number);
+        format!("{}\t{}", &line[..last], &line[last..]),
+        String::new(),
+        "\t".to_string(),
+        "\r".to_string(),
+        "# remark".to_string(),
+    ]
+}
+
+#[test]
+fn wrong_forms_of_every_line() {
+    for (i, line) in EVERY.lines().enumerate() {
+        for other in wrong_forms(line) {
+            bad(with_line(i + 1, &other), i as u32 + 1);
+        }
+        bad(with_more(i + 1, ""), i as u32 + 1);
     }
+}
+
+#[test]
+fn carriage_returns_everywhere() {
     bad(EVERY.replace('\n', "\r\n"), 1);
     bad(EVERY.replace('\n', "\r"), 1);
-    // Bytes that are no text at all.
+}
+
+#[test]
+fn bytes_that_are_no_text() {
     let mut text = EVERY.as_bytes().to_vec();
     let at = EVERY.find("4096").unwrap();
     for byte in [0u8, b'/', b':', 0x7f, 0x80, 0xb2, 0xff] {
@@ -278,7 +288,7 @@ fn numbers_in_every_field() {
 }
 
 #[test]
-fn ranges_of_fields() {
+fn fields_out_of_range() {
     for (line, wrong) in [
         (1, "cells\t0"),
         (1, "cells\t2"),
@@ -308,6 +318,10 @@ fn ranges_of_fields() {
     ] {
         bad(with_line(line, wrong), line as u32);
     }
+}
+
+#[test]
+fn fields_at_the_ends_of_their_ranges() {
     for (line, fine) in [
         (2, "size\t32\t65536"),
         (2, "size\t3\t10"),
@@ -318,6 +332,10 @@ fn ranges_of_fields() {
     ] {
         right(with_line(line, fine));
     }
+}
+
+#[test]
+fn sizes_too_small_for_later_lines() {
     // L = 9 makes the second byte line name no byte, L = 8 the first.
     bad(with_line(2, "size\t3\t9"), 10);
     bad(with_line(2, "size\t3\t8"), 9);
@@ -328,11 +346,10 @@ fn ranges_of_fields() {
 // ---------------------------------------------------------------------------
 // Order
 
+/// Wrong at the later line, save for `cell` and `do`.
 #[test]
-fn lines_repeated_missing_or_out_of_order() {
-    // Repeated: wrong at the later line, save for `cell` and `do`.
-    let lines: Vec<&str> = EVERY.lines().collect();
-    for (i, line) in lines.iter().enumerate() {
+fn lines_repeated() {
+    for (i, line) in EVERY.lines().enumerate() {
         let text = with_more(i + 2, line);
         if line.starts_with("cell\t") || line.starts_with("do") {
             right(text);
@@ -340,7 +357,10 @@ fn lines_repeated_missing_or_out_of_order() {
             bad(text, i as u32 + 2);
         }
     }
-    // Missing.
+}
+
+#[test]
+fn lines_missing() {
     bad(without(1), 1);
     bad(without(2), 2);
     bad(without(3), 5);
@@ -349,13 +369,21 @@ fn lines_repeated_missing_or_out_of_order() {
         right(without(line));
     }
     bad(without(11), 11);
-    // Two lines that rise, put the other way round.
+}
+
+/// Two lines that rise, put the other way round.
+#[test]
+fn lines_swapped() {
     for line in [5, 7, 9] {
-        let mut swapped = lines.clone();
+        let mut swapped: Vec<&str> = EVERY.lines().collect();
         swapped.swap(line - 1, line);
         bad(swapped.join("\n") + "\n", line as u32 + 1);
     }
-    // Each line put where it does not belong.
+}
+
+/// Each line put where it does not belong.
+#[test]
+fn lines_out_of_order() {
     for (line, more) in [
         (1, "size\t3\t16"),
         (1, "core\t0\t0\t0"),

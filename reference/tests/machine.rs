@@ -118,61 +118,48 @@ fn bench_number() {
 // ---------------------------------------------------------------------------
 // Check 1
 
+/// Alters the bench tables; every call must then be refused with 1.
+fn out_of_bounds(alter: &dyn Fn(&mut Tables)) {
+    let (mut t, mut r) = bench();
+    alter(&mut t);
+    let (t_before, r_before) = (t.clone(), r);
+    assert_eq!(check(&t), (1, 0));
+    for number in [0, 3, 10, 11, TOP] {
+        assert_eq!(execute(&mut t, &mut r, number, 4096, 0, 0), (1, 0));
+    }
+    assert_eq!(write_block(&mut t, &r, 4096, &[1]), (1, 0));
+    assert_eq!(view(&t, &r, 4096, 1), (1, 0, &[][..]));
+    assert_eq!((t, r), (t_before, r_before));
+}
+
 #[test]
-fn bounds_and_lengths() {
-    let bad = |alter: &dyn Fn(&mut Tables)| {
-        let (mut t, mut r) = bench();
-        alter(&mut t);
-        let (t_before, r_before) = (t.clone(), r);
-        assert_eq!(check(&t), (1, 0));
-        for number in [0, 3, 10, 11, TOP] {
-            assert_eq!(execute(&mut t, &mut r, number, 4096, 0, 0), (1, 0));
-        }
-        assert_eq!(write_block(&mut t, &r, 4096, &[1]), (1, 0));
-        assert_eq!(view(&t, &r, 4096, 1), (1, 0, &[][..]));
-        assert_eq!((t, r), (t_before, r_before));
-    };
-    bad(&|t| t.m = 0);
-    bad(&|t| {
+fn divisions_out_of_bounds() {
+    out_of_bounds(&|t| t.m = 0);
+    out_of_bounds(&|t| {
         t.m = 0;
         t.rights.clear();
         t.grants.clear();
     });
-    bad(&|t| {
+    out_of_bounds(&|t| {
         t.m = 33;
         t.rights = vec![0; 66];
         t.grants = vec![0; 66];
     });
-    bad(&|t| t.m = usize::MAX);
-    bad(&|t| t.m = usize::MAX / 2 + 1);
-    bad(&|t| t.m = 2);
-    bad(&|t| t.m = 4);
-    bad(&|t| t.memory = vec![0; 65_537]);
-    bad(&|t| {
-        t.first.pop();
+    out_of_bounds(&|t| t.m = usize::MAX);
+    out_of_bounds(&|t| t.m = usize::MAX / 2 + 1);
+    out_of_bounds(&|t| t.m = 2);
+    out_of_bounds(&|t| t.m = 4);
+    // Unsound as well: 1 comes first.
+    out_of_bounds(&|t| {
+        t.marks[0] = 9;
+        t.m = 4;
     });
-    bad(&|t| t.first.push(9000));
-    bad(&|t| {
-        t.last.pop();
-    });
-    bad(&|t| t.last.push(9000));
-    bad(&|t| {
-        t.offset.pop();
-    });
-    bad(&|t| t.offset.push(12));
-    bad(&|t| {
-        t.marks.pop();
-    });
-    bad(&|t| t.marks.push(1));
-    bad(&|t| {
-        t.rights.pop();
-    });
-    bad(&|t| t.rights.extend([0; 3]));
-    bad(&|t| {
-        t.grants.pop();
-    });
-    bad(&|t| t.grants.extend([0; 3]));
-    bad(&|t| {
+}
+
+#[test]
+fn cells_and_memory_out_of_bounds() {
+    out_of_bounds(&|t| t.memory = vec![0; 65_537]);
+    out_of_bounds(&|t| {
         // 257 cells, sound otherwise.
         t.first = (0..257).collect();
         t.last = (0..257).collect();
@@ -182,16 +169,31 @@ fn bounds_and_lengths() {
         t.grants = vec![0; 257 * 3];
         t.memory = vec![0; 300];
     });
-    // Unsound as well: 1 comes first.
-    bad(&|t| {
-        t.marks[0] = 9;
-        t.m = 4;
-    });
 }
 
 #[test]
-fn bounds_that_hold() {
-    let empty = Tables {
+fn lists_too_short() {
+    out_of_bounds(&|t| t.first.truncate(1));
+    out_of_bounds(&|t| t.last.truncate(1));
+    out_of_bounds(&|t| t.offset.truncate(1));
+    out_of_bounds(&|t| t.marks.truncate(1));
+    out_of_bounds(&|t| t.rights.truncate(5));
+    out_of_bounds(&|t| t.grants.truncate(5));
+}
+
+#[test]
+fn lists_too_long() {
+    out_of_bounds(&|t| t.first.push(9000));
+    out_of_bounds(&|t| t.last.push(9000));
+    out_of_bounds(&|t| t.offset.push(12));
+    out_of_bounds(&|t| t.marks.push(1));
+    out_of_bounds(&|t| t.rights.extend([0; 3]));
+    out_of_bounds(&|t| t.grants.extend([0; 3]));
+}
+
+#[test]
+fn lower_bounds_hold() {
+    let mut t = Tables {
         m: 1,
         first: vec![],
         last: vec![],
@@ -202,7 +204,6 @@ fn bounds_that_hold() {
         memory: vec![],
     };
     let mut r = Registers { current: 0, caller: 0, place: TOP };
-    let mut t = empty.clone();
     assert_eq!(check(&t), (0, 0));
     refused(&mut t, &mut r, [0, 0, 0, 0], 6);
     assert_eq!(write_block(&mut t, &r, 0, &[]), (6, 0));
@@ -211,8 +212,11 @@ fn bounds_that_hold() {
     assert_eq!(check(&t), (0, 0));
     t.m = 33;
     assert_eq!(check(&t), (1, 0));
+}
 
-    let full = Tables {
+/// M, N and L at their upper bounds, and the last cell at the highest address.
+fn full() -> Tables {
+    Tables {
         m: 32,
         first: (0..256u32).map(|cell| TOP - 65_535 + 256 * cell).collect(),
         last: (1..=256u32).map(|cell| TOP - 65_536 + 256 * cell).collect(),
@@ -221,10 +225,15 @@ fn bounds_that_hold() {
         rights: vec![7; 8192],
         grants: (0..8192u32).map(|entry| grant_entry((entry + 1) % 32, 7)).collect(),
         memory: vec![11; 65_536],
-    };
-    assert_eq!(full.last[255], TOP);
-    assert_eq!(check(&full), (0, 0));
-    let mut t = full.clone();
+    }
+}
+
+#[test]
+fn upper_bounds_hold() {
+    let mut t = full();
+    let mut r = Registers { current: 0, caller: 0, place: TOP };
+    assert_eq!(t.last[255], TOP);
+    assert_eq!(check(&t), (0, 0));
     assert_eq!(execute(&mut t, &mut r, 0, TOP, 0, 0), (0, 11));
     assert_eq!(write_block(&mut t, &r, TOP, &[5]), (0, 0));
     assert_eq!(t.memory[65_535], 5);
@@ -233,7 +242,7 @@ fn bounds_that_hold() {
         assert_eq!(view(&t, &r, TOP - 1, length), (8, 0, &[][..]));
     }
     // One byte of memory less, and the last cell no longer fits.
-    let mut t = full;
+    let mut t = full();
     t.memory.pop();
     assert_eq!(check(&t), (2, 255));
 }

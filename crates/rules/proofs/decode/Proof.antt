@@ -5,16 +5,6 @@ use Rattle.rules.proofs.Operands.{byte-small, rights-small, grant-small
 use native.Mathlib.Omega.{arith}
 use Rattle.rules.proofs.decode.Statement.{statement}
 use Rattle.rules.proofs.decode.Tie as tie
-use Rattle.rules.proofs.decode.Reads as reads
-use Rattle.rules.proofs.decode.Lts as lts
-use Rattle.rules.proofs.byte_operand.Reads as byte-operand-reads
-use Rattle.rules.proofs.division_operand.Reads as division-operand-reads
-use Rattle.rules.proofs.grant_operands.Reads as grant-operands-reads
-use Rattle.rules.proofs.keep.Reads as keep-reads
-use Rattle.rules.proofs.low_byte.Reads as low-byte-reads
-use Rattle.rules.proofs.no_operands.Reads as no-operands-reads
-use Rattle.rules.proofs.rights_operand.Reads as rights-operand-reads
-use Rattle.rules.proofs.source_operand.Reads as source-operand-reads
 
 -- src/lib.rt:182:29
 no-operands-requires : tie.Need-no-operands-requires

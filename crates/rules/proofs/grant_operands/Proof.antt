@@ -5,8 +5,6 @@ use borrow.Author.Tests.{le-leb, lt-leb}
 use Rattle.rules.specs.Instructions.{grantOperands}
 use Rattle.rules.proofs.grant_operands.Statement.{statement}
 use Rattle.rules.proofs.grant_operands.Tie as tie
-use Rattle.rules.proofs.grant_operands.Reads as reads
-use Rattle.rules.proofs.grant_operands.Lts as lts
 
 returns : tie.Need-returns
 unfolding grantOperands

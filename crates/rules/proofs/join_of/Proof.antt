@@ -5,9 +5,6 @@ use Rattle.rules.specs.Numbers.{join}
 use Rattle.rules.proofs.Rights.{larger-le}
 use Rattle.rules.proofs.join_of.Statement.{statement}
 use Rattle.rules.proofs.join_of.Tie as tie
-use Rattle.rules.proofs.join_of.Reads as reads
-use Rattle.rules.proofs.join_of.Lts as lts
-use Rattle.rules.proofs.larger_of.Reads as larger-of-reads
 
 -- src/lib.rt:75:5
 larger-of-requires : tie.Need-larger-of-requires

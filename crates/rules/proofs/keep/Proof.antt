@@ -1,7 +1,5 @@
 use Rattle.rules.proofs.keep.Statement.{statement}
 use Rattle.rules.proofs.keep.Tie as tie
-use Rattle.rules.proofs.keep.Reads as reads
-use Rattle.rules.proofs.keep.Lts as lts
 
 returns : tie.Need-returns
 returns c = simp (c .if1 .taken)

@@ -2,8 +2,6 @@ use borrow.Author.Tests.{le-leb, lt-leb}
 use Rattle.rules.specs.Numbers.{larger}
 use Rattle.rules.proofs.larger_of.Statement.{statement}
 use Rattle.rules.proofs.larger_of.Tie as tie
-use Rattle.rules.proofs.larger_of.Reads as reads
-use Rattle.rules.proofs.larger_of.Lts as lts
 
 returns : tie.Need-returns
 unfolding larger

@@ -4,8 +4,6 @@ use borrow.Author.Tests.{le-leb, lt-leb}
 use Rattle.rules.specs.Instructions.{rightsOperand}
 use Rattle.rules.proofs.rights_operand.Statement.{statement}
 use Rattle.rules.proofs.rights_operand.Tie as tie
-use Rattle.rules.proofs.rights_operand.Reads as reads
-use Rattle.rules.proofs.rights_operand.Lts as lts
 
 returns : tie.Need-returns
 unfolding rightsOperand

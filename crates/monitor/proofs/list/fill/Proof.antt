@@ -9,8 +9,6 @@ use Rattle.monitor.proofs.Running.{filled-more}
 use borrow.Author.Needs.{needs}
 use Rattle.monitor.proofs.list.fill.Statement.{statement}
 use Rattle.monitor.proofs.list.fill.Tie as tie
-use Rattle.monitor.proofs.list.fill.Reads as reads
-use Rattle.monitor.proofs.list.fill.Lts as lts
 
 abbrev Inv-loop : tie.InvT-loop
 Inv-loop entries₀ count v k₀ entries k = (k ≤ count) × ((entries ≡ filled v k entries₀) × (length entries ≡ length entries₀))

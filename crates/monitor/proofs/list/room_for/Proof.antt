@@ -2,8 +2,6 @@ use native.Mathlib.Omega.{arith}
 use Rattle.monitor.specs.Runs.{roomFor}
 use Rattle.monitor.proofs.list.room_for.Statement.{statement}
 use Rattle.monitor.proofs.list.room_for.Tie as tie
-use Rattle.monitor.proofs.list.room_for.Reads as reads
-use Rattle.monitor.proofs.list.room_for.Lts as lts
 
 returns : tie.Need-returns
 unfolding roomFor

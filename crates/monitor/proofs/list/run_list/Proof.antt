@@ -9,9 +9,6 @@ use Rattle.monitor.proofs.Running.{Turn, turn-first, turn-next}
 use borrow.Author.Needs.{needs}
 use Rattle.monitor.proofs.list.run_list.Statement.{statement}
 use Rattle.monitor.proofs.list.run_list.Tie as tie
-use Rattle.monitor.proofs.list.run_list.Reads as reads
-use Rattle.monitor.proofs.list.run_list.Lts as lts
-use Rattle.monitor.proofs.step.perform.Reads as perform-reads
 
 abbrev Inv-loop : tie.InvT-loop
 Inv-loop m first last offset marks₀ rights₀ grants₀ memory₀ instructions count numbers₀ values₀ core₀ k₀ marks rights grants memory numbers values core k =

@@ -2,10 +2,6 @@ use native.Mathlib.Omega.{arith}
 use borrow.Author.Needs.{needs}
 use Rattle.monitor.proofs.look.entry_word.Statement.{statement}
 use Rattle.monitor.proofs.look.entry_word.Tie as tie
-use Rattle.monitor.proofs.look.entry_word.Reads as reads
-use Rattle.monitor.proofs.look.entry_word.Lts as lts
-use Rattle.monitor.proofs.look.place_of.Reads as place-of-reads
-use Rattle.monitor.proofs.look.word_in.Reads as word-in-reads
 
 place-of-requires : tie.Need-place-of-requires
 place-of-requires c κs = search needs

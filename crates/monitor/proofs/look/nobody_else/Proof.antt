@@ -3,9 +3,6 @@ use Rattle.monitor.proofs.Searching.{somebody-else, nobody-at-all}
 use borrow.Author.Needs.{needs}
 use Rattle.monitor.proofs.look.nobody_else.Statement.{statement}
 use Rattle.monitor.proofs.look.nobody_else.Tie as tie
-use Rattle.monitor.proofs.look.nobody_else.Reads as reads
-use Rattle.monitor.proofs.look.nobody_else.Lts as lts
-use Rattle.monitor.proofs.look.other_holder.Reads as other-holder-reads
 
 other-holder-requires : tie.Need-other-holder-requires
 other-holder-requires c κs = search needs

@@ -5,8 +5,6 @@ use Rattle.monitor.proofs.Searching.{otherHolds, other-here, other-nobo
 use borrow.Author.Needs.{needs}
 use Rattle.monitor.proofs.look.other_holder.Statement.{statement}
 use Rattle.monitor.proofs.look.other_holder.Tie as tie
-use Rattle.monitor.proofs.look.other_holder.Reads as reads
-use Rattle.monitor.proofs.look.other_holder.Lts as lts
 
 abbrev Inv-loop : tie.InvT-loop
 Inv-loop m rights c d k₀ k = (k ≤ m) × Searched (otherHolds m rights c d) m k
