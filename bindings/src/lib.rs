@@ -31,6 +31,34 @@ pub struct Lent<'a> {
     pub memory: &'a mut [u8],
 }
 
+/// Lists of a caller's own, to be lent.
+#[derive(Clone, PartialEq, Eq)]
+pub struct Tables {
+    pub m: usize,
+    pub first: Vec<u32>,
+    pub last: Vec<u32>,
+    pub offset: Vec<u32>,
+    pub marks: Vec<u8>,
+    pub rights: Vec<u8>,
+    pub grants: Vec<u16>,
+    pub memory: Vec<u8>,
+}
+
+impl Tables {
+    pub fn lent(&mut self) -> Lent<'_> {
+        Lent {
+            m: self.m,
+            first: &self.first,
+            last: &self.last,
+            offset: &self.offset,
+            marks: &mut self.marks,
+            rights: &mut self.rights,
+            grants: &mut self.grants,
+            memory: &mut self.memory,
+        }
+    }
+}
+
 /// Where a view's part begins in the memory, and how many bytes it has.
 #[repr(C)]
 #[derive(Clone, Copy, PartialEq, Eq, Debug)]

@@ -1,21 +1,8 @@
 //! The proved library's calls on the reference's types.
 
-use cells::Lent;
+use compare::lent;
 use reference::gen::Call;
 use reference::{Registers, Tables};
-
-fn lent(t: &mut Tables) -> Lent<'_> {
-    Lent {
-        m: t.m,
-        first: &t.first,
-        last: &t.last,
-        offset: &t.offset,
-        marks: &mut t.marks,
-        rights: &mut t.rights,
-        grants: &mut t.grants,
-        memory: &mut t.memory,
-    }
-}
 
 fn core(r: &Registers) -> cells::Registers {
     cells::Registers { current: r.current, caller: r.caller, place: r.place }

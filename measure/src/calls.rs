@@ -2,8 +2,8 @@
 //! given the same answers on what it measures.
 
 use crate::clock::Row;
-use crate::full::{addresses, instruction, tables, Random, Tables, BLOCK, CURRENT, LONG_CELL, REGISTERS};
-use cells::Registers;
+use crate::full::{addresses, instruction, tables, Random, BLOCK, CURRENT, LONG_CELL, REGISTERS};
+use cells::{Registers, Tables};
 use measure::quick;
 use std::hint::black_box;
 

@@ -2,7 +2,7 @@
 //! same cells. All of it is a function of a seed.
 
 use measure::listing::{put_line, MOST_TEXT};
-use cells::{Lent, Registers};
+use cells::{Registers, Tables};
 use measure::quick::{MOST_CELLS, MOST_DIVISIONS, MOST_MEMORY};
 
 /// The one cell that is long enough for a block or view of 4 KB; every other has 240 bytes.
@@ -40,36 +40,11 @@ impl Random {
     }
 }
 
-#[derive(Clone, PartialEq, Eq)]
-pub struct Tables {
-    pub first: Vec<u32>,
-    pub last: Vec<u32>,
-    pub offset: Vec<u32>,
-    pub marks: Vec<u8>,
-    pub rights: Vec<u8>,
-    pub grants: Vec<u16>,
-    pub memory: Vec<u8>,
-}
-
-impl Tables {
-    pub fn lent(&mut self) -> Lent<'_> {
-        Lent {
-            m: MOST_DIVISIONS,
-            first: &self.first,
-            last: &self.last,
-            offset: &self.offset,
-            marks: &mut self.marks,
-            rights: &mut self.rights,
-            grants: &mut self.grants,
-            memory: &mut self.memory,
-        }
-    }
-}
-
 /// Cells that fill the memory but for 240 bytes at its end, with no right and no grant, over a memory of any bytes.
 fn cells_only(random: &mut Random) -> Tables {
     let entries = MOST_CELLS * MOST_DIVISIONS;
     let mut t = Tables {
+        m: MOST_DIVISIONS,
         first: Vec::new(),
         last: Vec::new(),
         offset: Vec::new(),

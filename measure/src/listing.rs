@@ -3,42 +3,15 @@
 //! later line turns out wrong, what the buffer holds is dropped.
 
 use crate::quick::{self, MOST_CELLS, MOST_DIVISIONS, MOST_MEMORY};
-use cells::{Lent, Registers};
+use cells::{Lent, Registers, Tables};
 
 /// A longer text is wrong as a whole.
 pub const MOST_TEXT: usize = 65_536;
 
-/// What the lines before `core` say. The lists have the sizes that the calls ask for; the tables need not be sound.
-struct Tables {
-    m: usize,
-    first: Vec<u32>,
-    last: Vec<u32>,
-    offset: Vec<u32>,
-    marks: Vec<u8>,
-    rights: Vec<u8>,
-    grants: Vec<u16>,
-    memory: Vec<u8>,
-}
-
-impl Tables {
-    fn lent(&mut self) -> Lent<'_> {
-        Lent {
-            m: self.m,
-            first: &self.first,
-            last: &self.last,
-            offset: &self.offset,
-            marks: &mut self.marks,
-            rights: &mut self.rights,
-            grants: &mut self.grants,
-            memory: &mut self.memory,
-        }
-    }
-
-    /// The place of an entry in the rights or the grants, for a cell and a division that exist.
-    fn entry(&self, cell: u32, division: u32) -> Option<usize> {
-        let (cell, division) = (cell as usize, division as usize);
-        (cell < self.first.len() && division < self.m).then(|| cell * self.m + division)
-    }
+/// The place of an entry in the rights or the grants, for a cell and a division that exist.
+fn entry(t: &Tables, cell: u32, division: u32) -> Option<usize> {
+    let (cell, division) = (cell as usize, division as usize);
+    (cell < t.first.len() && division < t.m).then(|| cell * t.m + division)
 }
 
 /// The text that is left to read, and the number of the line that it begins in.
@@ -159,7 +132,7 @@ fn read_rights(reader: &mut Reader, tables: &mut Tables) -> Option<()> {
     let mut free = 0;
     while reader.word(b"right\t") {
         let [cell, division, rights] = reader.numbers()?;
-        let entry = tables.entry(cell, division)?;
+        let entry = entry(tables, cell, division)?;
         if entry < free || !(1..=7).contains(&rights) {
             return None;
         }
@@ -174,7 +147,7 @@ fn read_grants(reader: &mut Reader, tables: &mut Tables) -> Option<()> {
     let mut free = 0;
     while reader.word(b"grant\t") {
         let [cell, from, to, rights] = reader.numbers()?;
-        let entry = tables.entry(cell, from)?;
+        let entry = entry(tables, cell, from)?;
         if entry < free || to as usize >= tables.m || !(1..=7).contains(&rights) {
             return None;
         }

@@ -1,24 +1,11 @@
 //! The yardstick gives the answers of the independent implementation: a quick program that does something else measures
 //! nothing.
 
-use measure::listing;
-use cells::{Lent, Registers};
-use measure::quick;
+use cells::Registers;
+use compare::lent;
+use measure::{listing, quick};
 use reference::gen::{self, Call, Random};
 use reference::Tables;
-
-fn lent(t: &mut Tables) -> Lent<'_> {
-    Lent {
-        m: t.m,
-        first: &t.first,
-        last: &t.last,
-        offset: &t.offset,
-        marks: &mut t.marks,
-        rights: &mut t.rights,
-        grants: &mut t.grants,
-        memory: &mut t.memory,
-    }
-}
 
 fn apply(call: &Call, t: &mut Tables, r: &mut Registers) -> (u32, u32, Vec<u8>) {
     let mut t = lent(t);

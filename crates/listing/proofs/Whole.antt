@@ -19,7 +19,7 @@ use Rattle.listing.specs.Words.{badWord, cellsWord}
 use Rattle.listing.specs.Lines.{field, headRow, sizeRow, rightAt, grantAt, byteAt, coreRow, registersIn}
 use Rattle.listing.specs.Listing.{run, zeros, Cells, entriesAt, Dos, dosAt, cellsAt, fromDos, fromCore, fromRights, fromSize, fromHead, listingIn}
 use Rattle.listing.specs.Output.{line1, linesOf, answerTo, answerLine, linesAfter, bodyOf, outputOf}
-use Rattle.listing.specs.Reading.{FilledAs, answerOf, writtenIn}
+use Rattle.listing.specs.Reading.{FilledAs, answerOf, outputRoom, writtenIn}
 use Rattle.listing.specs.declared.lines.Passed.{Passed}
 
 -- ---- parts of lists of zeros
@@ -137,17 +137,17 @@ module _ (s : List ℕ) (m l : ℕ) (C : Cells) where
 -- ---- the whole text
 
 -- what is put from 0 on ends in the buffer
-pub ends-inside : {o o₁ t : List ℕ} {r : ℕ} → 532480 ≤ length o → r ≤ 532480 → Put o 0 t r o₁ → Put o 0 t r o₁ × Ends 0 r o₁
+pub ends-inside : {o o₁ t : List ℕ} {r : ℕ} → outputRoom ≤ length o → r ≤ outputRoom → Put o 0 t r o₁ → Put o 0 t r o₁ × Ends 0 r o₁
 ends-inside {o₁ = o₁} {r = r} room h p = (p, (omega (arith, put-long p), sym (length-take r o₁)))
 
-pub nothing-written : (out s : List ℕ) → length out < 532480 → [] ≡ writtenIn out s
+pub nothing-written : (out s : List ℕ) → length out < outputRoom → [] ≡ writtenIn out s
 unfolding writtenIn
-nothing-written out s h = rw (lt-leb 532480 (length out) h)
+nothing-written out s h = rw (lt-leb outputRoom (length out) h)
 
-module _ (out s : List ℕ) (room : 532480 ≤ length out) where
+module _ (out s : List ℕ) (room : outputRoom ≤ length out) where
   written : line1 cellsWord 1 ++ bodyOf (listingIn s) ≡ writtenIn out s
   unfolding writtenIn outputOf
-  written = rw (le-leb 532480 (length out) room)
+  written = rw (le-leb outputRoom (length out) room)
 
   abbrev Follows : (t : List ℕ) → Type 0
   Follows t = line1 cellsWord 1 ++ t ≡ writtenIn out s

@@ -8,7 +8,7 @@ ghost use Rattle.rules.specs.Numbers.{tables, state};
 ghost use Rattle.listing.specs.Lines.{coreRow};
 ghost use Rattle.listing.specs.Listing.{run as theRun, fromCore, fromRights, cellsAt, zeros};
 ghost use Rattle.listing.specs.Output.{bodyOf};
-ghost use Rattle.listing.specs.Reading.{Roomy, writtenIn};
+ghost use Rattle.listing.specs.Reading.{Roomy, outputRoom, writtenIn};
 use crate::cells::cells_at;
 use crate::dos::dos_at;
 use crate::entries::Kind;
@@ -79,7 +79,7 @@ fn run_instructions(
     requires { ⌜ (length (now numbers) ≡ 5957) × (length (now values) ≡ 5957) ⌝ }
     requires { ⌜ (1 ≤ m) × (m ≤ 32) × (length (now rights) ≤ 8192) × (length (now grants) ≤ 8192) × (length (now instructions) ≡ 4 * count) × (count ≤ 5957) × Roomy at (now out) ⌝ }
     ensures { λ r. ⌜ Put (now (out .entry)) at (bodyOf (theRun (state (tables m (now (first .entry)) (now (last .entry)) (now (offset .entry)) (now (marks .entry)) (now (rights .entry)) (now (grants .entry)) (now (memory .entry))) registers) count (now (instructions .entry)))) r (now (out .exit)) ⌝ }
-    ensures { λ r. ⌜ r ≤ 532480 ⌝ }
+    ensures { λ r. ⌜ r ≤ outputRoom ⌝ }
 {
     let after = execute_all(
         m,
@@ -117,7 +117,7 @@ fn run_core(
 ) -> usize
     requires { ⌜ (1 ≤ m) × (m ≤ 32) × (length (now rights) ≤ 8192) × (length (now grants) ≤ 8192) × (length (now s) ≤ 65536) × (line ≤ 262144) × Roomy at (now out) ⌝ }
     ensures { λ r. ⌜ Put (now (out .entry)) at (bodyOf (fromCore (now (s .entry)) line (tables m (now (first .entry)) (now (last .entry)) (now (offset .entry)) (now (marks .entry)) (now (rights .entry)) (now (grants .entry)) (now (memory .entry))) (coreRow (now (s .entry)) next))) r (now (out .exit)) ⌝ }
-    ensures { λ r. ⌜ r ≤ 532480 ⌝ }
+    ensures { λ r. ⌜ r ≤ outputRoom ⌝ }
 {
     let core = core_row(s, next);
     let v = core.v;
@@ -176,7 +176,7 @@ fn run_rights(
     requires { ⌜ (1 ≤ m) × (m ≤ 32) × (l ≤ 65536) × (length (now first) ≤ 256) × (length (now s) ≤ 65536) × Roomy at (now out) ⌝ }
     requires { ⌜ (now rights ≡ zeros (length (now first) * m)) × (now grants ≡ zeros (length (now first) * m)) × (now memory ≡ zeros l) ⌝ }
     ensures { λ r. ⌜ Put (now (out .entry)) at (bodyOf (fromRights (now (s .entry)) m l (record { next = next; first = now (first .entry); last = now (last .entry); offset = now (offset .entry); marks = now (marks .entry) }))) r (now (out .exit)) ⌝ }
-    ensures { λ r. ⌜ r ≤ 532480 ⌝ }
+    ensures { λ r. ⌜ r ≤ outputRoom ⌝ }
 {
     let n = first.len();
     let a = fill_bytes(s, next, Kind::Right(n as u32, m), rights);
@@ -204,7 +204,7 @@ fn run_rights(
 fn run_cells(s: &[u8], next: usize, m: u32, l: u32, out: &mut [u8], at: usize) -> usize
     requires { ⌜ (1 ≤ m) × (m ≤ 32) × (l ≤ 65536) × (length (now s) ≤ 65536) × Roomy at (now out) ⌝ }
     ensures { λ r. ⌜ Put (now (out .entry)) at (bodyOf (fromRights (now (s .entry)) m l (cellsAt (now (s .entry)) next))) r (now (out .exit)) ⌝ }
-    ensures { λ r. ⌜ r ≤ 532480 ⌝ }
+    ensures { λ r. ⌜ r ≤ outputRoom ⌝ }
 {
     let mut first = [0u32; 256];
     let mut last = [0u32; 256];
