@@ -4,14 +4,13 @@
 //!
 //! Then it compares the program `cellrun` itself over seeded listings.
 //!
-//! Usage: compare CALLS LISTINGS PROGRAM
+//! Usage: compare CALLS LISTINGS PROGRAM [ARGUMENTS]
 
 mod library;
 mod listings;
 
 use reference::answers::{possible, row_of, ROWS};
 use reference::gen::{self, Call, Random};
-use std::path::Path;
 use std::process::ExitCode;
 
 /// One state with its calls: the answers counted, or what differed.
@@ -76,11 +75,11 @@ fn calls(wanted: u64) -> Result<u32, String> {
 }
 
 /// Both comparisons. A listing's run is of use only where some texts were wrong and some were not.
-fn run(wanted: u64, listings: u64, program: &str) -> Result<(), String> {
+fn run(wanted: u64, listings: u64, program: &[String]) -> Result<(), String> {
     if calls(wanted)? != 0 {
         return Err("the answers reached are not those that can be given".to_string());
     }
-    let wrong = listings::compare(Path::new(program), listings)?;
+    let wrong = listings::compare(program, listings)?;
     println!("{listings} listings compared through cellrun, {wrong} of them wrong text");
     if wrong == 0 || wrong == listings {
         return Err("the listings are all of one kind".to_string());
@@ -88,14 +87,23 @@ fn run(wanted: u64, listings: u64, program: &str) -> Result<(), String> {
     Ok(())
 }
 
+/// The two numbers that are asked for, and the program with its arguments.
+fn asked(words: &[String]) -> Option<(u64, u64, &[String])> {
+    match words {
+        [calls, listings, program @ ..] if !program.is_empty() => {
+            Some((calls.parse().ok()?, listings.parse().ok()?, program))
+        }
+        _ => None,
+    }
+}
+
 fn main() -> ExitCode {
     let words: Vec<String> = std::env::args().skip(1).collect();
-    let numbers = (words.first().and_then(|w| w.parse().ok()), words.get(1).and_then(|w| w.parse().ok()));
-    let (Some(wanted), Some(listings), Some(program)) = (numbers.0, numbers.1, words.get(2)) else {
-        println!("usage: compare CALLS LISTINGS PROGRAM");
-        return ExitCode::FAILURE;
+    let outcome = match asked(&words) {
+        Some((wanted, listings, program)) => run(wanted, listings, program),
+        None => Err("usage: compare CALLS LISTINGS PROGRAM [ARGUMENTS]".to_string()),
     };
-    match run(wanted, listings, program) {
+    match outcome {
         Ok(()) => ExitCode::SUCCESS,
         Err(difference) => {
             println!("{difference}");

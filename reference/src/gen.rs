@@ -221,7 +221,10 @@ fn fill_memory(t: &mut Tables, random: &mut Random) {
         };
     }
     for cell in 0..t.first.len() {
-        let Some((low, high)) = whole_words(t.first[cell], t.last[cell]) else { continue };
+        let (low, high) = match whole_words(t.first[cell], t.last[cell]) {
+            Some(words) => words,
+            None => continue,
+        };
         let word = match random.below(8) {
             0..=3 => ENTRY_WORD,
             4 => random.pick(&[10, 12, 0, 11 << 24, 11 + 256, 11 + 65_536, 11 + (1 << 24), 75]),
@@ -732,7 +735,7 @@ fn grant(t: &Tables, cell: usize, division: usize) -> u16 {
 }
 
 fn valid(t: &Tables, cell: usize) -> bool {
-    t.marks.get(cell).is_some_and(|&mark| mark != 0)
+    t.marks.get(cell).map_or(false, |&mark| mark != 0)
 }
 
 /// First and last of a cell, put in order if a spoilt cell's are not.
@@ -857,7 +860,7 @@ impl Search<'_> {
 
     fn receive_suits(&self, cell: usize, source: usize) -> bool {
         let entry = grant(self.t, cell, source);
-        let named = grant_parts(entry).is_some_and(|(target, _)| target as usize == self.d);
+        let named = grant_parts(entry).map_or(false, |(target, _)| target as usize == self.d);
         match self.wish {
             // No grant at all, or a grant to somebody else.
             Wish::Special => !named && (entry != 0) == self.coin,

@@ -187,7 +187,7 @@ impl Reader {
 
     /// Lines of one kind rise strictly by their key.
     fn rises(&mut self, key: (u32, u32)) -> Option<()> {
-        if self.key.is_some_and(|before| before >= key) {
+        if self.key.map_or(false, |before| before >= key) {
             return None;
         }
         self.key = Some(key);

@@ -471,7 +471,7 @@ fn longest_text() {
     // The last line takes up exactly the rest.
     let rest = 65_536 - text.len();
     let more = rest - 11;
-    let (y, z) = ("1".repeat(1 + more / 2), "1".repeat(1 + more.div_ceil(2)));
+    let (y, z) = ("1".repeat(1 + more / 2), "1".repeat(1 + (more - more / 2)));
     text += &format!("do\t0\t0\t{y}\t{z}\n");
     assert_eq!(text.len(), 65_536);
     let count = text.matches("do").count();

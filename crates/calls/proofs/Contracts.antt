@@ -3,24 +3,25 @@
 use Prim.Native.Nat.{ℕ}
 use mathlib.Core.Path.{_≡_, refl, sym, ap, _∙_, subst}
 use mathlib.Core.Logic.{_≢_}
-use mathlib.Core.List.{List}
 use mathlib.Core.Bool.{true}
 use native.Mathlib.Omega.{arith}
-use lib.ListN.{length, getD, take, drop}
+use lib.ListN.{getD, take, drop}
 use lib.Dec.{eqb}
 use borrow.Author.Tests.{eqb-true}
-use denote.Ref.{RefT, now}
-use Rattle.rules.specs.Numbers.{Tables, State, tables, state}
+use denote.Ref.{now}
+use Rattle.rules.specs.Numbers.{Tables, State, state}
+use Rattle.rules.specs.Lent.{Slice, given}
 use Rattle.rules.specs.Calls.{instruction, blockWrite, readView, done, performed}
 use Rattle.rules.specs.declared.Registers.{Registers}
 use Rattle.rules.specs.declared.Answer.{Answer}
 use Rattle.rules.proofs.Below.{by-test}
 use Rattle.rules.proofs.Laws.{by-outcome, accepted-done}
 use Rattle.monitor.specs.Ready.{came, answerIn, viewPlaceIn}
-use Rattle.monitor.specs.Runs.{instructionAt, roomFor}
+use Rattle.monitor.specs.Runs.{instructionAt, roomIn, Ran}
 use Rattle.monitor.specs.declared.Reply.{Reply}
 use Rattle.monitor.specs.declared.ViewPlace.{ViewPlace}
 use Rattle.monitor.proofs.Locating.{viewed-part}
+use Rattle.monitor.proofs.Unique.{Passed}
 use Rattle.monitor.proofs.execute.Reads as execute-reads
 use Rattle.monitor.proofs.execute_all.Reads as execute-all-reads
 use Rattle.monitor.proofs.write_block.Reads as write-block-reads
@@ -31,10 +32,6 @@ use Rattle.history.specs.History.{Right, Held}
 use Rattle.history.specs.Shown.{holdsIn, shown, LastWritten}
 use Rattle.history.proofs.Demand3.{byte-history}
 use Rattle.calls.proofs.Lists.{list-run, list-history}
-
--- a lent list, as the checker knows it: a reference, with what stands there now
-abbrev pub Lent : Type 0
-Lent = RefT (List ℕ)
 
 -- a read view leaves all as it was
 view-kept : (s : State) (x n : ℕ) → performed s (readView x n) .after ≡ s
@@ -49,44 +46,43 @@ place-answer s x n =
     (λ e. rw e (sym (ap answerIn (accepted-done s (readView x n) (eqb-true _ _ e))))) (λ e. rw e refl)
 
 -- what every call is lent, and no call may change
-module _ (m : ℕ) (first last offset : Lent) where
+module _ (m : ℕ) (first last offset : Slice) where
   -- the tables, with the four lists that a call may change
-  abbrev pub lent : (marks rights grants memory : Lent) → Tables
-  lent k r g b = tables m (now first) (now last) (now offset) (now k) (now r) (now g) (now b)
+  abbrev pub lent : (marks rights grants memory : Slice) → Tables
+  lent k r g b = given m first last offset k r g b
 
   -- the parameters of a call, of which `rest` are its own
-  abbrev pub given : {Rest : Type 0} → (marks rights grants memory : Lent) → Registers → Rest
-      → ℕ × (Lent × (Lent × (Lent × (Lent × (Lent × (Lent × (Lent × (Registers × Rest))))))))
-  given k r g b registers rest = (m, (first, (last, (offset, (k, (r, (g, (b, (registers, rest)))))))))
+  abbrev pub passed : {Rest : Type 0} → (marks rights grants memory : Slice) → Registers → Rest → Passed (Registers × Rest)
+  passed k r g b registers rest = (m, (first, (last, (offset, (k, (r, (g, (b, (registers, rest)))))))))
 
-  module _ (marks rights grants memory : Lent) (registers : Registers) where
+  module _ (marks rights grants memory : Slice) (registers : Registers) where
     abbrev pub start : State
     start = state (lent marks rights grants memory) registers
 
     -- ---- a call that meets its contract is a step: o ≡ performed s a, which `one-called` of `history/proofs/Sequences.antt` takes
 
-    pub execute-performed : (κs : _) (number x y z : ℕ) (marks′ rights′ grants′ memory′ : Lent) (r : Reply)
-        → execute-reads.Post κs (given marks rights grants memory registers (number, (x, (y, (z, tt))))) r
-        (given marks′ rights′ grants′ memory′ registers (number, (x, (y, (z, tt)))))
+    pub execute-performed : (κs : _) (number x y z : ℕ) (marks′ rights′ grants′ memory′ : Slice) (r : Reply)
+        → execute-reads.Post κs (passed marks rights grants memory registers (number, (x, (y, (z, tt))))) r
+        (passed marks′ rights′ grants′ memory′ registers (number, (x, (y, (z, tt)))))
         → came r (lent marks′ rights′ grants′ memory′) ≡ performed start (instruction number x y z)
     execute-performed κs number x y z marks′ rights′ grants′ memory′ r e = e
 
-    pub write-block-performed : (κs : _) (x : ℕ) (bytes memory′ : Lent) (r : Reply)
-        → write-block-reads.Post κs (given marks rights grants memory registers (x, (bytes, tt))) r (given marks rights grants memory′ registers (x, (bytes, tt)))
+    pub write-block-performed : (κs : _) (x : ℕ) (bytes memory′ : Slice) (r : Reply)
+        → write-block-reads.Post κs (passed marks rights grants memory registers (x, (bytes, tt))) r (passed marks rights grants memory′ registers (x, (bytes, tt)))
         → came r (lent marks rights grants memory′) ≡ performed start (blockWrite x (now bytes))
     write-block-performed κs x bytes memory′ r e = e
 
     -- a read view is two functions, one for the part and one for the number and the value, and neither changes anything
-    pub view-performed : (κs λs : _) (x n : ℕ) (part : Lent) (a : Answer)
-        → view-reads.Post κs (given marks rights grants memory registers (x, (n, tt))) part (given marks rights grants memory registers (x, (n, tt)))
-        → view-answer-reads.Post λs (given marks rights grants memory registers (x, (n, tt))) a (given marks rights grants memory registers (x, (n, tt)))
+    pub view-performed : (κs λs : _) (x n : ℕ) (part : Slice) (a : Answer)
+        → view-reads.Post κs (passed marks rights grants memory registers (x, (n, tt))) part (passed marks rights grants memory registers (x, (n, tt)))
+        → view-answer-reads.Post λs (passed marks rights grants memory registers (x, (n, tt))) a (passed marks rights grants memory registers (x, (n, tt)))
         → record { number = a .number; value = a .value; part = now part; after = start } ≡ performed start (readView x n)
     view-performed κs λs x n part a e f =
         λ i. record { number = f i .number; value = f i .value; part = e i; after = sym (view-kept start x n) i }
 
     -- or one, which tells the place of the part in the memory
     pub view-place-performed : (κs : _) (x n : ℕ) (v : ViewPlace)
-        → view-place-reads.Post κs (given marks rights grants memory registers (x, (n, tt))) v (given marks rights grants memory registers (x, (n, tt)))
+        → view-place-reads.Post κs (passed marks rights grants memory registers (x, (n, tt))) v (passed marks rights grants memory registers (x, (n, tt)))
         → record { number = v .number; value = v .value; part = take (v .count) (drop (v .start) (now memory)); after = start }
         ≡ performed start (readView x n)
     view-place-performed κs x n v e =
@@ -94,23 +90,23 @@ module _ (m : ℕ) (first last offset : Lent) where
         rw e (λ i. record { number = a i .number; value = a i .value; part = viewed-part start x n i; after = sym (view-kept start x n) i })
 
     -- `execute_all`, where it has met its contract
-    module _ (κs : _) (instructions numbers values marks′ rights′ grants′ memory′ numbers′ values′ : Lent) (r : Registers)
-        (met : execute-all-reads.Post κs (given marks rights grants memory registers (instructions, (numbers, (values, tt)))) r
-        (given marks′ rights′ grants′ memory′ registers (instructions, (numbers′, (values′, tt))))) where
+    module _ (κs : _) (instructions numbers values marks′ rights′ grants′ memory′ numbers′ values′ : Slice) (r : Registers)
+        (met : execute-all-reads.Post κs (passed marks rights grants memory registers (instructions, (numbers, (values, tt)))) r
+        (passed marks′ rights′ grants′ memory′ registers (instructions, (numbers′, (values′, tt))))) where
       -- so many instructions it runs
       abbrev pub count : ℕ
-      count = roomFor (length (now instructions)) (length (now numbers)) (length (now values))
+      count = roomIn (now instructions) (now numbers) (now values)
 
       -- a division that holds a right at exit has held it without a break since entry, or last gained it by an accepted receive,
       -- among these instructions, of a grant made out to it, whose maker held the right when making it, and so back to entry
       pub execute-all-history : (c d : ℕ) (q : Right) → holdsIn (lent marks′ rights′ grants′ memory′) c d q ≡ true
           → Held (shown (instructionAt (now instructions)) start) c q count d
       execute-all-history c d q h =
-          list-history start (now instructions) count c d q (subst (λ (u : State). holdsIn (u .lent) c d q ≡ true) (met .0) h)
+          list-history start (now instructions) count c d q (subst (λ (u : State). holdsIn (u .lent) c d q ≡ true) (ap (λ (u : Ran). u .after) met) h)
 
       -- a byte that differs between entry and exit was last changed by one of these instructions, an accepted store from a
       -- division then holding write on the valid cell covering it
       pub execute-all-bytes : (p : ℕ) → getD (now memory′) p 0 ≢ getD (now memory) p 0 → LastWritten (instructionAt (now instructions)) start 0 count p
       execute-all-bytes p ne =
           byte-history (instructionAt (now instructions)) start count 0 p (omega arith)
-          (λ e. ne (ap (λ (u : State). getD (u .lent .memory) p 0) (met .0 ∙ list-run start (now instructions) count) ∙ e))
+          (λ e. ne (ap (λ (u : State). getD (u .lent .memory) p 0) (ap (λ (u : Ran). u .after) met ∙ list-run start (now instructions) count) ∙ e))

@@ -1,11 +1,11 @@
 // The monitor's calls for programs in C or Rust that link the static library: each is one call of `monitor`, under its
 // contract. A slice is passed as a pointer and a length. The header is include/cells.h.
 ghost use mathlib.Core.Path.{_≡_};
-ghost use lib.ListN.{length};
-ghost use Rattle.rules.specs.Numbers.{tables, state};
+ghost use Rattle.rules.specs.Numbers.{state};
+ghost use Rattle.rules.specs.Lent.{before, after};
 ghost use Rattle.rules.specs.Calls.{instruction, blockWrite, performed};
 ghost use Rattle.monitor.specs.Ready.{viewPlaceIn, came};
-ghost use Rattle.monitor.specs.Runs.{roomFor, afterFirst, numbersIn, valuesIn};
+ghost use Rattle.monitor.specs.Runs.{ran, runAll};
 use monitor::Reply;
 use monitor::ViewPlace;
 use rules::Registers;
@@ -27,7 +27,8 @@ pub extern "C" fn cells_execute(
     y: u32,
     z: u32,
 ) -> Reply
-    ensures { λ r. ⌜ came r (tables m (now (first .entry)) (now (last .entry)) (now (offset .entry)) (now (marks .exit)) (now (rights .exit)) (now (grants .exit)) (now (memory .exit))) ≡ performed (state (tables m (now (first .entry)) (now (last .entry)) (now (offset .entry)) (now (marks .entry)) (now (rights .entry)) (now (grants .entry)) (now (memory .entry))) registers) (instruction number x y z) ⌝ }
+    ensures { λ r. ⌜ came r (after m first last offset marks rights grants memory)
+        ≡ performed (state (before m first last offset marks rights grants memory) registers) (instruction number x y z) ⌝ }
 {
     monitor::execute(
         m,
@@ -62,9 +63,8 @@ pub extern "C" fn cells_execute_all(
     numbers: &mut [u32],
     values: &mut [u32],
 ) -> Registers
-    ensures { λ r. ⌜ state (tables m (now (first .entry)) (now (last .entry)) (now (offset .entry)) (now (marks .exit)) (now (rights .exit)) (now (grants .exit)) (now (memory .exit))) r ≡ afterFirst (state (tables m (now (first .entry)) (now (last .entry)) (now (offset .entry)) (now (marks .entry)) (now (rights .entry)) (now (grants .entry)) (now (memory .entry))) registers) (now (instructions .entry)) (roomFor (length (now (instructions .entry))) (length (now (numbers .entry))) (length (now (values .entry)))) ⌝ }
-    ensures { λ r. ⌜ now (numbers .exit) ≡ numbersIn (state (tables m (now (first .entry)) (now (last .entry)) (now (offset .entry)) (now (marks .entry)) (now (rights .entry)) (now (grants .entry)) (now (memory .entry))) registers) (now (instructions .entry)) (roomFor (length (now (instructions .entry))) (length (now (numbers .entry))) (length (now (values .entry)))) (now (numbers .entry)) ⌝ }
-    ensures { λ r. ⌜ now (values .exit) ≡ valuesIn (state (tables m (now (first .entry)) (now (last .entry)) (now (offset .entry)) (now (marks .entry)) (now (rights .entry)) (now (grants .entry)) (now (memory .entry))) registers) (now (instructions .entry)) (roomFor (length (now (instructions .entry))) (length (now (numbers .entry))) (length (now (values .entry)))) (now (values .entry)) ⌝ }
+    ensures { λ r. ⌜ ran (state (after m first last offset marks rights grants memory) r) (now (numbers .exit)) (now (values .exit))
+        ≡ runAll (state (before m first last offset marks rights grants memory) registers) (now (instructions .entry)) (now (numbers .entry)) (now (values .entry)) ⌝ }
 {
     monitor::execute_all(
         m,
@@ -97,7 +97,8 @@ pub extern "C" fn cells_write_block(
     x: u32,
     bytes: &[u8],
 ) -> Reply
-    ensures { λ r. ⌜ came r (tables m (now (first .entry)) (now (last .entry)) (now (offset .entry)) (now (marks .entry)) (now (rights .entry)) (now (grants .entry)) (now (memory .exit))) ≡ performed (state (tables m (now (first .entry)) (now (last .entry)) (now (offset .entry)) (now (marks .entry)) (now (rights .entry)) (now (grants .entry)) (now (memory .entry))) registers) (blockWrite x (now (bytes .entry))) ⌝ }
+    ensures { λ r. ⌜ came r (after m first last offset marks rights grants memory)
+        ≡ performed (state (before m first last offset marks rights grants memory) registers) (blockWrite x (now (bytes .entry))) ⌝ }
 {
     monitor::write_block(
         m,
@@ -129,7 +130,7 @@ pub extern "C" fn cells_view(
     x: u32,
     n: usize,
 ) -> ViewPlace
-    ensures { λ r. ⌜ r ≡ viewPlaceIn (state (tables m (now (first .entry)) (now (last .entry)) (now (offset .entry)) (now (marks .entry)) (now (rights .entry)) (now (grants .entry)) (now (memory .entry))) registers) x n ⌝ }
+    ensures { λ r. ⌜ r ≡ viewPlaceIn (state (before m first last offset marks rights grants memory) registers) x n ⌝ }
 {
     monitor::view_place(
         m,

@@ -3,7 +3,7 @@
 use Prim.Native.Nat.{ℕ, zero, suc, _+_, _-_, _*_, _/_, _%_, _≤_, _<_}
 use mathlib.Core.Path.{_≡_, refl, sym, ap, _∙_}
 use mathlib.Core.List.{List, [], _∷_, _++_, append-assoc, append-nil}
-use mathlib.Core.Bool.{Bool, true, false, not, _&&_, true≢false}
+use mathlib.Core.Bool.{true, false, not, _&&_, true≢false}
 use native.Mathlib.Omega.{arith}
 use native.Mathlib.Nat.{sub-zero, mod-lt, div-lt-iff-lt-mul, div-add-mod'}
 use native.Mathlib.Numerals.{add-one}
@@ -30,7 +30,7 @@ use Rattle.rules.proofs.Sizes.{Sized, sized}
 use Rattle.rules.proofs.SoundCells.{AllSound, all-sound}
 use Rattle.listing.specs.Words.{rightWord, grantWord, coreWord}
 use Rattle.listing.specs.Lines.{coreRow, rightRow, grantRow, rightAt, grantAt, registersIn}
-use Rattle.listing.specs.Listing.{zeros, Entries, withEntry, moreEntries, entriesAt}
+use Rattle.listing.specs.Listing.{zeros, Entries, withEntry, rises, withNext, moreEntries, entriesAt}
 use Rattle.listing.specs.Output.{line3, line4, linesOf, coreLine, rightLine, grantLine, stateLines}
 use Rattle.listing.specs.declared.entries.Entry.{Entry}
 use Rattle.listing.proofs.Rows.{within-ok}
@@ -81,12 +81,6 @@ behind s at t u e = sym (drop-drop (length t) at s) ∙ ap (drop (length t)) e �
 -- ---- one turn of the reader, and none
 
 module _ (line : ℕ → Entry) (t : Entries) where
-  abbrev goes : Entries → Bool
-  goes t = line (t .next) .ok && leb (t .least) (line (t .next) .key)
-
-  abbrev goes-on : Entries → Entries
-  goes-on t = withEntry t (line (t .next))
-
   -- where no line stands, nothing more is read
   still : (k : ℕ) → line (t .next) .ok ≡ false → moreEntries line k t ≡ t
   unfolding star
@@ -97,7 +91,7 @@ module _ (line : ℕ → Entry) (t : Entries) where
   turn : (k : ℕ) (e : Entry) → 0 < k → line (t .next) ≡ e → e .ok ≡ true → t .least ≤ e .key
       → moreEntries line k t ≡ moreEntries line (k - 1) (withEntry t e)
   turn k e h q ok up =
-      rw sub-zero at (star-more goes goes-on t k 0 h (rw (q, ok, le-leb (t .least) (e .key) up)))
+      rw sub-zero at (star-more (rises line) (withNext line) t k 0 h (rw (q, ok, le-leb (t .least) (e .key) up)))
       ∙ ap (λ (e : Entry). moreEntries line (k - 1) (withEntry t e)) q
 
 -- ---- a list of entries: `text e` is written of entry e, and `line at` is what is read at a place of s

@@ -2,7 +2,7 @@
 use Prim.Native.Nat.{ℕ, _+_, _-_, _*_, _≤_, _<_}
 use mathlib.Core.Path.{_≡_, refl, sym, ap, _∙_}
 use mathlib.Core.List.{List, [], _∷_, _++_, append-assoc}
-use mathlib.Core.Bool.{Bool, true, false, _&&_}
+use mathlib.Core.Bool.{true, false, _&&_}
 use native.Mathlib.Omega.{arith}
 use native.Mathlib.Nat.{sub-zero}
 use native.Mathlib.Numerals.{add-one}
@@ -12,7 +12,7 @@ use lib.Dec.{leb}
 use Rattle.text.specs.declared.line.Row.{Row}
 use Rattle.text.proofs.Stars.{star-stop, star-more, star-full}
 use Rattle.listing.specs.Lines.{field, cellRow, doRow}
-use Rattle.listing.specs.Listing.{Cells, withCell, moreCells, cellsAt, Entries, withEntry, moreEntries, entriesAt, Dos, withDo, moreDos, dosAt}
+use Rattle.listing.specs.Listing.{Cells, withCell, moreCells, cellsAt, Entries, withEntry, rises, withNext, moreEntries, entriesAt, Dos, withDo, moreDos, dosAt}
 use Rattle.listing.specs.Reading.{FilledAs}
 use Rattle.listing.specs.declared.entries.Entry.{Entry}
 use Rattle.listing.proofs.Rows.{do-advance}
@@ -85,12 +85,6 @@ module _ {line : ℕ → Entry} {k at : ℕ} {list₀ : List ℕ} {n i least : �
   abbrev filled-now : Entries
   filled-now = record { count = n; next = i; least = least; list = list }
 
-  abbrev goes : Entries → Bool
-  goes t = line (t .next) .ok && leb (t .least) (line (t .next) .key)
-
-  abbrev goes-on : Entries → Entries
-  goes-on t = withEntry t (line (t .next))
-
   pub entries-more : n < k → (e : Entry) → e ≡ line i → (e .ok && leb least (e .key)) ≡ true
       → EntriesRead line k at list₀ (n + 1) (e .next) (e .key + 1) (set list (e .key) (e .value))
   entries-more f e q ok =
@@ -99,7 +93,7 @@ module _ {line : ℕ → Entry} {k at : ℕ} {list₀ : List ℕ} {n i least : �
         long = length-set list (e .key) (e .value) ∙ h .long;
         same =
             ap (λ (e : Entry). moreEntries line (k - (n + 1)) (withEntry filled-now e)) q
-            ∙ sym (star-more goes goes-on filled-now k n f (ap (λ (e : Entry). e .ok && leb least (e .key)) (sym q) ∙ ok))
+            ∙ sym (star-more (rises line) (withNext line) filled-now k n f (ap (λ (e : Entry). e .ok && leb least (e .key)) (sym q) ∙ ok))
             ∙ h .same;
       }
 
@@ -115,10 +109,10 @@ module _ {line : ℕ → Entry} {k at : ℕ} {list₀ : List ℕ} {n i least : �
       → FilledAs (entriesAt line k at list₀) (record { count = n; next = i }) list
   entries-stop g e q f =
       filled-as
-      (sym (star-stop goes goes-on filled-now k n g (ap (λ (e : Entry). e .ok && leb least (e .key)) (sym q) ∙ f)) ∙ h .same)
+      (sym (star-stop (rises line) (withNext line) filled-now k n g (ap (λ (e : Entry). e .ok && leb least (e .key)) (sym q) ∙ f)) ∙ h .same)
 
   pub entries-full : k ≤ n → FilledAs (entriesAt line k at list₀) (record { count = n; next = i }) list
-  entries-full f = filled-as (sym (star-full goes goes-on filled-now k n f) ∙ h .same)
+  entries-full f = filled-as (sym (star-full (rises line) (withNext line) filled-now k n f) ∙ h .same)
 
 -- ---- do lines: n of them are read into the front of the list, and i is the place after them
 

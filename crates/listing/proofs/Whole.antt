@@ -14,7 +14,8 @@ use Rattle.text.proofs.Cases.{by-test}
 use Rattle.text.proofs.Writing.{put-then}
 use Rattle.text.proofs.Room.{put-long}
 use Rattle.rules.specs.Numbers.{Tables, State, state, tables}
-use Rattle.monitor.specs.Runs.{roomFor, afterFirst, numbersIn, valuesIn}
+use Rattle.rules.specs.Refusals.{Outcome}
+use Rattle.monitor.specs.Runs.{roomFor, roomIn, afterFirst, answersIn, Ran, ran, runAll}
 use Rattle.listing.specs.Words.{badWord, cellsWord}
 use Rattle.listing.specs.Lines.{field, headRow, sizeRow, rightAt, grantAt, byteAt, coreRow, registersIn}
 use Rattle.listing.specs.Listing.{run, zeros, Cells, entriesAt, Dos, dosAt, cellsAt, fromDos, fromCore, fromRights, fromSize, fromHead, listingIn}
@@ -35,33 +36,20 @@ part-long k n h = sym (ap (length {A = ℕ}) (zeros-part k n h) ∙ length-repli
 -- ---- the answers in the two lists
 
 module _ (s : State) (l out : List ℕ) where
-  numbers-long : (k : ℕ) → length (numbersIn s l k out) ≡ length out
-  unfolding numbersIn
-  numbers-long zero = refl
-  numbers-long (suc k) = length-set (numbersIn s l k out) k (answerTo s l k .number) ∙ numbers-long k
+  answers-long : (part : Outcome → ℕ) (k : ℕ) → length (answersIn part s l k out) ≡ length out
+  unfolding answersIn
+  answers-long part zero = refl
+  answers-long part (suc k) = length-set (answersIn part s l k out) k (part (answerTo s l k)) ∙ answers-long part k
 
-  values-long : (k : ℕ) → length (valuesIn s l k out) ≡ length out
-  unfolding valuesIn
-  values-long zero = refl
-  values-long (suc k) = length-set (valuesIn s l k out) k (answerTo s l k .value) ∙ values-long k
-
-  pub numbers-at : (k i : ℕ) → i < k → k ≤ length out → getD (numbersIn s l k out) i 0 ≡ answerTo s l i .number
-  unfolding numbersIn
-  numbers-at zero i h f = absurd (omega arith)
-  numbers-at (suc k) i h f =
+  answers-at : (part : Outcome → ℕ) (k i : ℕ) → i < k → k ≤ length out → getD (answersIn part s l k out) i 0 ≡ part (answerTo s l i)
+  unfolding answersIn
+  answers-at part zero i h f = absurd (omega arith)
+  answers-at part (suc k) i h f =
       by-test (eqb i k)
-      (λ e. let q : i ≡ k = eqb-true i k e in rw q (getD-set-same (numbersIn s l k out) k (answerTo s l k .number) 0 (omega (arith, numbers-long k))))
+      (λ e. let q : i ≡ k = eqb-true i k e in
+      rw q (getD-set-same (answersIn part s l k out) k (part (answerTo s l k)) 0 (omega (arith, answers-long part k))))
       (λ e. let q : i ≡ k → ⊥ = eqb-false i k e in
-      getD-set-other (numbersIn s l k out) k i (answerTo s l k .number) 0 q ∙ numbers-at k i (omega arith) (omega arith))
-
-  pub values-at : (k i : ℕ) → i < k → k ≤ length out → getD (valuesIn s l k out) i 0 ≡ answerTo s l i .value
-  unfolding valuesIn
-  values-at zero i h f = absurd (omega arith)
-  values-at (suc k) i h f =
-      by-test (eqb i k)
-      (λ e. let q : i ≡ k = eqb-true i k e in rw q (getD-set-same (valuesIn s l k out) k (answerTo s l k .value) 0 (omega (arith, values-long k))))
-      (λ e. let q : i ≡ k → ⊥ = eqb-false i k e in
-      getD-set-other (valuesIn s l k out) k i (answerTo s l k .value) 0 q ∙ values-at k i (omega arith) (omega arith))
+      getD-set-other (answersIn part s l k out) k i (part (answerTo s l k)) 0 q ∙ answers-at part k i (omega arith) (omega arith))
 
 -- the same lines, where each is the same
 lines-same : (f g : ℕ → List ℕ) (i k : ℕ) → ((j : ℕ) → i ≤ j → j < i + k → f j ≡ g j) → linesOf f i k ≡ linesOf g i k
@@ -79,26 +67,25 @@ room-all i k e h = omega arith
 module _ (s : State) (l : List ℕ) (k : ℕ) (long : length l ≡ 4 * k) (few : k ≤ 5957) (ns vs ns₀ vs₀ : List ℕ) (u : State)
     (a : length ns₀ ≡ 5957) (b : length vs₀ ≡ 5957) where
   abbrev room : ℕ
-  room = roomFor (length l) (length ns₀) (length vs₀)
+  room = roomIn l ns₀ vs₀
 
   room-is : room ≡ k
   room-is = rw (a, b) (room-all (length l) k long few)
 
-  answers-same : ns ≡ numbersIn s l room ns₀ → vs ≡ valuesIn s l room vs₀
-      → linesOf (answerOf ns vs) 0 k ≡ linesOf (answerLine s l) 0 k
-  unfolding answerOf answerLine
-  answers-same n v =
-      lines-same (answerOf ns vs) (answerLine s l) 0 k
-      (λ j _ h.
-      rw (n, v, room-is, numbers-at s l ns₀ k j (omega arith) (omega (arith, a)), values-at s l vs₀ k j (omega arith) (omega (arith, b))))
+  module _ (e : ran u ns vs ≡ runAll s l ns₀ vs₀) where
+    answers-same : linesOf (answerOf ns vs) 0 k ≡ linesOf (answerLine s l) 0 k
+    unfolding answerOf answerLine
+    answers-same =
+        lines-same (answerOf ns vs) (answerLine s l) 0 k
+        (λ j _ h.
+        rw (ap (λ (r : Ran). r .numbers) e, ap (λ (r : Ran). r .values) e, room-is, answers-at s l ns₀ (λ o. o .number) k j (omega arith) (omega (arith, a)), answers-at s l vs₀ (λ o. o .value) k j (omega arith) (omega (arith, b))))
 
-  pub run-body : u ≡ afterFirst s l room → ns ≡ numbersIn s l room ns₀ → vs ≡ valuesIn s l room vs₀
-      → {o o₁ o₂ : List ℕ} {at m r : ℕ} → Put o at (linesOf (answerOf ns vs) 0 k) m o₁ → Put o₁ m (linesAfter u) r o₂
-      → Put o at (bodyOf (run s k l)) r o₂
-  unfolding bodyOf
-  run-body e n v p q =
-      let same : u ≡ afterFirst s l k = rw (← room-is) e in
-      rw (← same, ← answers-same n v) (put-then p q)
+    pub run-body : {o o₁ o₂ : List ℕ} {at m r : ℕ} → Put o at (linesOf (answerOf ns vs) 0 k) m o₁ → Put o₁ m (linesAfter u) r o₂
+        → Put o at (bodyOf (run s k l)) r o₂
+    unfolding bodyOf
+    run-body p q =
+        let same : u ≡ afterFirst s l k = rw (← room-is) (ap (λ (r : Ran). r .after) e) in
+        rw (← same, ← answers-same) (put-then p q)
 
 -- ---- the stages
 

@@ -3,7 +3,7 @@
 -- wrong line is the first that must be of a kind (`cells`, `size`, `core`, or the end of the text) and is not. Assumes nothing.
 use Prim.Native.Nat.{ℕ, _+_, _*_}
 use mathlib.Core.List.{List, [], _∷_, _++_}
-use mathlib.Core.Bool.{cond, _&&_}
+use mathlib.Core.Bool.{Bool, cond, _&&_}
 use lib.ListN.{length, replicate, set}
 use lib.Dec.{leb, eqb}
 use Rattle.text.specs.Star.{star}
@@ -57,12 +57,16 @@ abbrev pub withEntry : Entries → Entry → Entries
 withEntry t e =
     record { count = t .count + 1; next = e .next; least = e .key + 1; list = set (t .list) (e .key) (e .value) }
 
--- k lines more at most, where `line` tells what stands at a place
+-- a line stands there, and it rises; `line` tells what stands at a place
+abbrev pub rises : (line : ℕ → Entry) → Entries → Bool
+rises line t = line (t .next) .ok && leb (t .least) (line (t .next) .key)
+
+abbrev pub withNext : (line : ℕ → Entry) → Entries → Entries
+withNext line t = withEntry t (line (t .next))
+
+-- k lines more at most
 abbrev pub moreEntries : (line : ℕ → Entry) (k : ℕ) → Entries → Entries
-moreEntries line k t =
-    star (λ (t : Entries). line (t .next) .ok && leb (t .least) (line (t .next) .key))
-    (λ (t : Entries). withEntry t (line (t .next)))
-    k t
+moreEntries line k t = star (rises line) (withNext line) k t
 
 -- in a text of k bytes there are no more than k lines
 abbrev pub entriesAt : (line : ℕ → Entry) (k at : ℕ) (list : List ℕ) → Entries

@@ -16,7 +16,14 @@ pub fn cells_at(
     marks: &mut [u8],
 ) -> Passed
     requires { ⌜ (length (now first) ≡ 256) × (length (now last) ≡ 256) × (length (now offset) ≡ 256) × (length (now marks) ≡ 256) ⌝ }
-    ensures { λ r. ⌜ cellsAt (now (s .entry)) at ≡ record { next = r .next; first = take (r .count) (now (first .exit)); last = take (r .count) (now (last .exit)); offset = take (r .count) (now (offset .exit)); marks = take (r .count) (now (marks .exit)) } ⌝ }
+    ensures { λ r. ⌜ cellsAt (now (s .entry)) at
+        ≡ record {
+          next = r .next;
+          first = take (r .count) (now (first .exit));
+          last = take (r .count) (now (last .exit));
+          offset = take (r .count) (now (offset .exit));
+          marks = take (r .count) (now (marks .exit));
+        } ⌝ }
     ensures { λ r. ⌜ r .count ≤ 256 ⌝ }
 {
     let mut i = at;

@@ -10,7 +10,8 @@ use crate::lines::do_row;
 // 65,536 has no more than 5,957.
 pub fn dos_at(s: &[u8], at: usize, list: &mut [u32]) -> Passed
     requires { ⌜ (length (now s) ≤ 65536) × (length (now list) ≡ 23828) ⌝ }
-    ensures { λ r. ⌜ dosAt (now (s .entry)) at ≡ record { count = r .count; next = r .next; numbers = take (4 * r .count) (now (list .exit)) } ⌝ }
+    ensures { λ r. ⌜ dosAt (now (s .entry)) at
+        ≡ record { count = r .count; next = r .next; numbers = take (4 * r .count) (now (list .exit)) } ⌝ }
     ensures { λ r. ⌜ r .count ≤ 5957 ⌝ }
 {
     let mut i = at;

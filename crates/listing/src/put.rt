@@ -3,7 +3,7 @@
 ghost use mathlib.Core.Path.{_≡_};
 ghost use Prim.Native.Nat.{_+_, _*_, _≤_};
 ghost use lib.ListN.{length};
-ghost use Rattle.text.specs.Text.{Put};
+ghost use Rattle.text.specs.Text.{Puts};
 ghost use Rattle.listing.specs.Words.{badWord, cellsWord};
 ghost use Rattle.listing.specs.Output.{line1, linesOf, coreLine, rightLine, grantLine, stateLines};
 ghost use Rattle.listing.specs.Reading.{answerOf};
@@ -13,7 +13,7 @@ use text::put_row;
 // `cells 1`, with which all that is written begins.
 pub fn put_head(out: &mut [u8]) -> usize
     requires { ⌜ 17 ≤ length (now out) ⌝ }
-    ensures { λ r. ⌜ Put (now (out .entry)) 0 (line1 cellsWord 1) r (now (out .exit)) ⌝ }
+    ensures { λ r. ⌜ Puts out 0 (line1 cellsWord 1) r ⌝ }
     ensures { λ r. ⌜ r ≤ 17 ⌝ }
 {
     put_row(out, 0, b"cells", [1, 0, 0, 0, 0], 1)
@@ -22,7 +22,7 @@ pub fn put_head(out: &mut [u8]) -> usize
 // `bad` and the line.
 pub fn put_bad(out: &mut [u8], at: usize, line: u32) -> usize
     requires { ⌜ at + 15 ≤ length (now out) ⌝ }
-    ensures { λ r. ⌜ Put (now (out .entry)) at (line1 badWord line) r (now (out .exit)) ⌝ }
+    ensures { λ r. ⌜ Puts out at (line1 badWord line) r ⌝ }
     ensures { λ r. ⌜ r ≤ at + 15 ⌝ }
 {
     put_row(out, at, b"bad", [line, 0, 0, 0, 0], 1)
@@ -37,7 +37,7 @@ pub fn put_answers(
     count: usize,
 ) -> usize
     requires { ⌜ (count ≤ 5957) × (count ≤ length (now numbers)) × (count ≤ length (now values)) × (at + 34 * count + 6 ≤ length (now out)) ⌝ }
-    ensures { λ r. ⌜ Put (now (out .entry)) at (linesOf (answerOf (now (numbers .entry)) (now (values .entry))) 0 count) r (now (out .exit)) ⌝ }
+    ensures { λ r. ⌜ Puts out at (linesOf (answerOf (now (numbers .entry)) (now (values .entry))) 0 count) r ⌝ }
     ensures { λ r. ⌜ r ≤ at + 34 * count ⌝ }
 {
     let mut i = at;
@@ -58,7 +58,7 @@ pub fn put_answers(
 // `core` current caller place.
 pub fn put_core(out: &mut [u8], at: usize, r: Registers) -> usize
     requires { ⌜ at + 38 ≤ length (now out) ⌝ }
-    ensures { λ q. ⌜ Put (now (out .entry)) at (coreLine r) q (now (out .exit)) ⌝ }
+    ensures { λ q. ⌜ Puts out at (coreLine r) q ⌝ }
     ensures { λ q. ⌜ q ≤ at + 38 ⌝ }
 {
     put_row(out, at, b"core", [r.current, r.caller, r.place, 0, 0], 3)
@@ -78,7 +78,7 @@ fn wide_entry(x: u16) -> u32
 
 fn put_right(out: &mut [u8], at: usize, m: usize, rights: &[u8], e: usize) -> usize
     requires { ⌜ (1 ≤ m) × (m ≤ 32) × (e ≤ 8191) × (e + 1 ≤ length (now rights)) × (at + 39 ≤ length (now out)) ⌝ }
-    ensures { λ r. ⌜ Put (now (out .entry)) at (rightLine m (now (rights .entry)) e) r (now (out .exit)) ⌝ }
+    ensures { λ r. ⌜ Puts out at (rightLine m (now (rights .entry)) e) r ⌝ }
     ensures { λ r. ⌜ r ≤ at + 18 ⌝ }
 {
     let h = wide(rights[e]);
@@ -97,7 +97,7 @@ fn put_right(out: &mut [u8], at: usize, m: usize, rights: &[u8], e: usize) -> us
 // The `right` lines of the entries that are not 0.
 pub fn put_rights(out: &mut [u8], at: usize, m: usize, rights: &[u8]) -> usize
     requires { ⌜ (1 ≤ m) × (m ≤ 32) × (length (now rights) ≤ 8192) × (at + 18 * length (now rights) + 21 ≤ length (now out)) ⌝ }
-    ensures { λ r. ⌜ Put (now (out .entry)) at (linesOf (rightLine m (now (rights .entry))) 0 (length (now (rights .entry)))) r (now (out .exit)) ⌝ }
+    ensures { λ r. ⌜ Puts out at (linesOf (rightLine m (now (rights .entry))) 0 (length (now (rights .entry)))) r ⌝ }
     ensures { λ r. ⌜ r ≤ at + 18 * length (now (rights .entry)) ⌝ }
 {
     let mut i = at;
@@ -111,7 +111,7 @@ pub fn put_rights(out: &mut [u8], at: usize, m: usize, rights: &[u8]) -> usize
 
 fn put_grant(out: &mut [u8], at: usize, m: usize, grants: &[u16], e: usize) -> usize
     requires { ⌜ (1 ≤ m) × (m ≤ 32) × (e ≤ 8191) × (e + 1 ≤ length (now grants)) × (at + 50 ≤ length (now out)) ⌝ }
-    ensures { λ r. ⌜ Put (now (out .entry)) at (grantLine m (now (grants .entry)) e) r (now (out .exit)) ⌝ }
+    ensures { λ r. ⌜ Puts out at (grantLine m (now (grants .entry)) e) r ⌝ }
     ensures { λ r. ⌜ r ≤ at + 22 ⌝ }
 {
     let g = wide_entry(grants[e]);
@@ -130,7 +130,7 @@ fn put_grant(out: &mut [u8], at: usize, m: usize, grants: &[u16], e: usize) -> u
 // The `grant` lines of the entries that are not 0.
 pub fn put_grants(out: &mut [u8], at: usize, m: usize, grants: &[u16]) -> usize
     requires { ⌜ (1 ≤ m) × (m ≤ 32) × (length (now grants) ≤ 8192) × (at + 22 * length (now grants) + 28 ≤ length (now out)) ⌝ }
-    ensures { λ r. ⌜ Put (now (out .entry)) at (linesOf (grantLine m (now (grants .entry))) 0 (length (now (grants .entry)))) r (now (out .exit)) ⌝ }
+    ensures { λ r. ⌜ Puts out at (linesOf (grantLine m (now (grants .entry))) 0 (length (now (grants .entry)))) r ⌝ }
     ensures { λ r. ⌜ r ≤ at + 22 * length (now (grants .entry)) ⌝ }
 {
     let mut i = at;
@@ -152,7 +152,7 @@ pub fn put_state(
     grants: &[u16],
 ) -> usize
     requires { ⌜ (1 ≤ m) × (m ≤ 32) × (length (now rights) ≤ 8192) × (length (now grants) ≤ 8192) × (at + 327746 ≤ length (now out)) ⌝ }
-    ensures { λ q. ⌜ Put (now (out .entry)) at (stateLines r m (now (rights .entry)) (now (grants .entry))) q (now (out .exit)) ⌝ }
+    ensures { λ q. ⌜ Puts out at (stateLines r m (now (rights .entry)) (now (grants .entry))) q ⌝ }
     ensures { λ q. ⌜ q ≤ at + 327718 ⌝ }
 {
     let a = put_core(out, at, r);

@@ -3,8 +3,9 @@
 ghost use mathlib.Core.Path.{_≡_};
 ghost use Prim.Native.Nat.{_+_, _*_, _≤_};
 ghost use lib.ListN.{length};
-ghost use Rattle.text.specs.Text.{Put, Ends};
-ghost use Rattle.rules.specs.Numbers.{tables, state};
+ghost use Rattle.text.specs.Text.{Puts, Ends};
+ghost use Rattle.rules.specs.Numbers.{state};
+ghost use Rattle.rules.specs.Lent.{before};
 ghost use Rattle.listing.specs.Lines.{coreRow};
 ghost use Rattle.listing.specs.Listing.{run as theRun, fromCore, fromRights, cellsAt, zeros};
 ghost use Rattle.listing.specs.Output.{bodyOf};
@@ -77,8 +78,10 @@ fn run_instructions(
     at: usize,
 ) -> usize
     requires { ⌜ (length (now numbers) ≡ 5957) × (length (now values) ≡ 5957) ⌝ }
-    requires { ⌜ (1 ≤ m) × (m ≤ 32) × (length (now rights) ≤ 8192) × (length (now grants) ≤ 8192) × (length (now instructions) ≡ 4 * count) × (count ≤ 5957) × Roomy at (now out) ⌝ }
-    ensures { λ r. ⌜ Put (now (out .entry)) at (bodyOf (theRun (state (tables m (now (first .entry)) (now (last .entry)) (now (offset .entry)) (now (marks .entry)) (now (rights .entry)) (now (grants .entry)) (now (memory .entry))) registers) count (now (instructions .entry)))) r (now (out .exit)) ⌝ }
+    requires { ⌜ (1 ≤ m) × (m ≤ 32) × (length (now rights) ≤ 8192) × (length (now grants) ≤ 8192)
+        × (length (now instructions) ≡ 4 * count) × (count ≤ 5957) × Roomy at (now out) ⌝ }
+    ensures { λ r. ⌜ Puts out at (bodyOf (theRun (state (before m first last offset marks rights grants memory) registers) count
+        (now (instructions .entry)))) r ⌝ }
     ensures { λ r. ⌜ r ≤ outputRoom ⌝ }
 {
     let after = execute_all(
@@ -115,8 +118,10 @@ fn run_core(
     out: &mut [u8],
     at: usize,
 ) -> usize
-    requires { ⌜ (1 ≤ m) × (m ≤ 32) × (length (now rights) ≤ 8192) × (length (now grants) ≤ 8192) × (length (now s) ≤ 65536) × (line ≤ 262144) × Roomy at (now out) ⌝ }
-    ensures { λ r. ⌜ Put (now (out .entry)) at (bodyOf (fromCore (now (s .entry)) line (tables m (now (first .entry)) (now (last .entry)) (now (offset .entry)) (now (marks .entry)) (now (rights .entry)) (now (grants .entry)) (now (memory .entry))) (coreRow (now (s .entry)) next))) r (now (out .exit)) ⌝ }
+    requires { ⌜ (1 ≤ m) × (m ≤ 32) × (length (now rights) ≤ 8192) × (length (now grants) ≤ 8192)
+        × (length (now s) ≤ 65536) × (line ≤ 262144) × Roomy at (now out) ⌝ }
+    ensures { λ r. ⌜ Puts out at (bodyOf (fromCore (now (s .entry)) line
+        (before m first last offset marks rights grants memory) (coreRow (now (s .entry)) next))) r ⌝ }
     ensures { λ r. ⌜ r ≤ outputRoom ⌝ }
 {
     let core = core_row(s, next);
@@ -175,7 +180,8 @@ fn run_rights(
 ) -> usize
     requires { ⌜ (1 ≤ m) × (m ≤ 32) × (l ≤ 65536) × (length (now first) ≤ 256) × (length (now s) ≤ 65536) × Roomy at (now out) ⌝ }
     requires { ⌜ (now rights ≡ zeros (length (now first) * m)) × (now grants ≡ zeros (length (now first) * m)) × (now memory ≡ zeros l) ⌝ }
-    ensures { λ r. ⌜ Put (now (out .entry)) at (bodyOf (fromRights (now (s .entry)) m l (record { next = next; first = now (first .entry); last = now (last .entry); offset = now (offset .entry); marks = now (marks .entry) }))) r (now (out .exit)) ⌝ }
+    ensures { λ r. ⌜ Puts out at (bodyOf (fromRights (now (s .entry)) m l
+        (record { next = next; first = now (first .entry); last = now (last .entry); offset = now (offset .entry); marks = now (marks .entry) }))) r ⌝ }
     ensures { λ r. ⌜ r ≤ outputRoom ⌝ }
 {
     let n = first.len();
@@ -203,7 +209,7 @@ fn run_rights(
 // From the cell lines on, with the lists at their largest, of which the parts that the size line asks for are lent on.
 fn run_cells(s: &[u8], next: usize, m: u32, l: u32, out: &mut [u8], at: usize) -> usize
     requires { ⌜ (1 ≤ m) × (m ≤ 32) × (l ≤ 65536) × (length (now s) ≤ 65536) × Roomy at (now out) ⌝ }
-    ensures { λ r. ⌜ Put (now (out .entry)) at (bodyOf (fromRights (now (s .entry)) m l (cellsAt (now (s .entry)) next))) r (now (out .exit)) ⌝ }
+    ensures { λ r. ⌜ Puts out at (bodyOf (fromRights (now (s .entry)) m l (cellsAt (now (s .entry)) next))) r ⌝ }
     ensures { λ r. ⌜ r ≤ outputRoom ⌝ }
 {
     let mut first = [0u32; 256];
@@ -237,7 +243,7 @@ fn run_cells(s: &[u8], next: usize, m: u32, l: u32, out: &mut [u8], at: usize) -
 // What `cellrun` writes of the text `s`, to the front of `out`, and how long it is. Where `out` has not the 532,480 bytes that
 // are enough for every text, nothing is written.
 pub fn cellrun(s: &[u8], out: &mut [u8]) -> usize
-    ensures { λ r. ⌜ Put (now (out .entry)) 0 (writtenIn (now (out .entry)) (now (s .entry))) r (now (out .exit)) ⌝ }
+    ensures { λ r. ⌜ Puts out 0 (writtenIn (now (out .entry)) (now (s .entry))) r ⌝ }
     ensures { λ r. ⌜ Ends 0 r (now (out .exit)) ⌝ }
 {
     if out.len() < ROOM {

@@ -12,7 +12,7 @@ use Rattle.rules.specs.declared.Answer.{Answer}
 use Rattle.rules.proofs.Kept.{Begun, SameShape, shape-same, shape-then}
 use Rattle.rules.proofs.Laws.{begun-kept, shape-kept}
 use Rattle.monitor.specs.Ready.{firstAnswer}
-use Rattle.monitor.specs.Runs.{instructionAt, roomFor, afterFirst, numbersIn, valuesIn, filled}
+use Rattle.monitor.specs.Runs.{instructionAt, roomFor, Ran, ran, runFirst, afterFirst, answersIn, filled}
 use Rattle.monitor.proofs.Beginning.{refusedBy, first-refuse}
 
 -- ---- room
@@ -36,19 +36,19 @@ pub record Turn (s : State) (l numbers values : List ℕ) (k : ℕ) (u : State) 
   pub at : u ≡ afterFirst s l k
   pub begun : Begun u
   pub shape : SameShape (s .lent) (u .lent)
-  pub numbered : ns ≡ numbersIn s l k numbers
-  pub valued : vs ≡ valuesIn s l k values
+  pub numbered : ns ≡ answersIn (λ o. o .number) s l k numbers
+  pub valued : vs ≡ answersIn (λ o. o .value) s l k values
   pub long : length ns ≡ length numbers
   pub wide : length vs ≡ length values
 
 pub turn-first : (s : State) (l numbers values : List ℕ) → Begun s → Turn s l numbers values 0 s numbers values
-unfolding afterFirst numbersIn valuesIn
+unfolding afterFirst answersIn
 turn-first s l numbers values b = record { at = refl; begun = b; shape = shape-same (s .lent); numbered = refl; valued = refl; long = refl; wide = refl }
 
 pub turn-next : {s : State} {l numbers values : List ℕ} {k : ℕ} {u : State} {ns vs : List ℕ} (o : Outcome) → Turn s l numbers values k u ns vs
     → o ≡ performed u (instructionAt l k)
     → Turn s l numbers values (k + 1) (o .after) (set ns k (o .number)) (set vs k (o .value))
-unfolding afterFirst numbersIn valuesIn
+unfolding afterFirst answersIn
 turn-next {s} {l} {numbers} {values} {k} {u} {ns} {vs} o t e =
     let q : o ≡ performed (afterFirst s l k) (instructionAt l k) = e ∙ ap (λ (w : State). performed w (instructionAt l k)) (t .at) in
     record {
@@ -61,28 +61,39 @@ turn-next {s} {l} {numbers} {values} {k} {u} {ns} {vs} o t e =
       wide = simp length-set (t .wide);
     }
 
+-- so many turns, however the count is said
+pub turns-ran : {s : State} {l numbers values : List ℕ} {k n : ℕ} {u : State} {ns vs : List ℕ} → Turn s l numbers values k u ns vs → k ≡ n
+    → ran u ns vs ≡ runFirst s l n numbers values
+turns-ran {s} {l} {numbers} {values} {u = u} {ns = ns} {vs = vs} t e =
+    subst (λ (j : ℕ). ran u ns vs ≡ runFirst s l j numbers values) e (λ i. ran (t .at i) (t .numbered i) (t .valued i))
+
+-- the same list, however its count is said
+pub ran-as : (s : State) (l numbers values : List ℕ) {k n : ℕ} {r : Ran} → k ≡ n
+    → r ≡ runFirst s l k numbers values → r ≡ runFirst s l n numbers values
+ran-as s l numbers values {r = r} e = subst (λ (j : ℕ). r ≡ runFirst s l j numbers values) e
+
 -- ---- where check 1, 2 or 3 fails
 
 module _ (s : State) (a : Answer) (e : a ≡ firstAnswer s) (h : a .number ≡ 0 → ⊥) (l : List ℕ) where
   refused-each : (k : ℕ) → performed s (instructionAt l k) ≡ refusedBy s a
   refused-each k = sym (first-refuse s a e (instructionAt l k) h)
 
-  pub refused-state : (k : ℕ) → s ≡ afterFirst s l k
+  refused-state : (k : ℕ) → s ≡ afterFirst s l k
   unfolding afterFirst
   refused-state zero = refl
   refused-state (suc k) =
       sym (ap (λ (p : Outcome). p .after) (refused-each k))
       ∙ ap (λ (u : State). performed u (instructionAt l k) .after) (refused-state k)
 
-  pub refused-numbers : (k : ℕ) (out : List ℕ) → filled (a .number) k out ≡ numbersIn s l k out
-  unfolding filled numbersIn
-  refused-numbers zero out = refl
-  refused-numbers (suc k) out = rw (← refused-state k, refused-each k, refused-numbers k out)
+  refused-answers : (part : Outcome → ℕ) (k : ℕ) (out : List ℕ) → filled (part (refusedBy s a)) k out ≡ answersIn part s l k out
+  unfolding filled answersIn
+  refused-answers part zero out = refl
+  refused-answers part (suc k) out = rw (← refused-state k, refused-each k, refused-answers part k out)
 
-  pub refused-values : (k : ℕ) (out : List ℕ) → filled (a .value) k out ≡ valuesIn s l k out
-  unfolding filled valuesIn
-  refused-values zero out = refl
-  refused-values (suc k) out = rw (← refused-state k, refused-each k, refused-values k out)
+  pub refused-ran : (k : ℕ) (numbers values : List ℕ) {ns vs : List ℕ} → ns ≡ filled (a .number) k numbers → vs ≡ filled (a .value) k values
+      → ran s ns vs ≡ runFirst s l k numbers values
+  refused-ran k numbers values ns vs =
+      λ i. ran (refused-state k i) ((ns ∙ refused-answers (λ o. o .number) k numbers) i) ((vs ∙ refused-answers (λ o. o .value) k values) i)
 
 -- ---- filling
 

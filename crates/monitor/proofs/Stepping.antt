@@ -9,10 +9,11 @@ use borrow.Author.Tests.{ne-eqb}
 use Rattle.rules.specs.Numbers.{State, Tables}
 use Rattle.rules.specs.Refusals.{notCovered, Check, firstFailing, refused, answered}
 use Rattle.rules.specs.Instructions.{addressOf, covered, needs}
-use Rattle.rules.specs.Calls.{kindChecks, kindDone, doneAt}
+use Rattle.rules.specs.Calls.{kindChecks, doneAt}
 use Rattle.rules.specs.declared.Instruction.{Instruction}
 use Rattle.rules.specs.declared.Instruction.the-variants.{Load, Store, Fetch, Switch, Protect, Grant, Receive, Transfer, Invalidate, Revalidate, Exclusive}
 use Rattle.rules.proofs.Checks.{Each, each-more, AllHold, accept-all, first-has, value-zero}
+use Rattle.monitor.specs.Ready.{kindPerformed}
 use Rattle.monitor.specs.Leaves.{foundIn}
 use Rattle.monitor.specs.declared.find.Found.{Found}
 use Rattle.monitor.specs.declared.find.Found.the-variants.{At, Nowhere}
@@ -48,7 +49,7 @@ needs-above t d c (Exclusive x) = (omega arith, (omega arith, tt))
 -- ---- what a well-formed instruction answers
 
 module _ (s : State) (i : Instruction) where
-  pub stepped-nowhere : covered (s .lent) (addressOf i) ≡ false → refused s notCovered ≡ answered s (kindChecks s i) (kindDone s i)
+  pub stepped-nowhere : covered (s .lent) (addressOf i) ≡ false → refused s notCovered ≡ kindPerformed s i
   unfolding answered kindChecks firstFailing
   stepped-nowhere e = rw e
 
@@ -57,13 +58,13 @@ module _ (s : State) (i : Instruction) where
     unfolding kindChecks firstFailing
     first-here = rw (f .covers, f .same) (sym q)
 
-    pub stepped-refused : (n ≡ 0 → ⊥) → record { number = n; value = 0; part = []; after = s } ≡ answered s (kindChecks s i) (kindDone s i)
+    pub stepped-refused : (n ≡ 0 → ⊥) → record { number = n; value = 0; part = []; after = s } ≡ kindPerformed s i
     unfolding answered
     stepped-refused h =
         let k : 7 ≤ n = subst (λ (j : ℕ). 7 ≤ j) (sym q) (first-has (λ j. 7 ≤ j) _ (needs-above (s .lent) (s .registers .current) c i) (λ z. h (q ∙ z))) in
         rw (first-here, ne-eqb n 0 h, value-zero (s .lent) n (omega arith))
 
-    pub stepped-applied : n ≡ 0 → doneAt s c i ≡ answered s (kindChecks s i) (kindDone s i)
+    pub stepped-applied : n ≡ 0 → doneAt s c i ≡ kindPerformed s i
     unfolding answered
     stepped-applied z = rw (first-here, z, f .same)
 

@@ -1,8 +1,12 @@
 -- Two outcomes that one contract allows are equal: for each public function, over its contract as the source states it
 -- (`Post` is what its `ensures` says of the arguments, the result and the parameters at exit). Assumes nothing.
+use Prim.Native.Nat.{ℕ}
 use mathlib.Core.Path.{_≡_, ap}
+use mathlib.Core.List.{List}
 use denote.Ref.{now}
 use Rattle.rules.specs.Numbers.{Tables}
+use Rattle.rules.specs.Lent.{Slice, given}
+use Rattle.rules.specs.declared.Registers.{Registers}
 use Rattle.rules.proofs.Laws.{one-outcome}
 use Rattle.monitor.specs.Ready.{came}
 use Rattle.monitor.specs.declared.Reply.{Reply}
@@ -12,6 +16,23 @@ use Rattle.monitor.proofs.write_block.Reads as write-block-reads
 use Rattle.monitor.proofs.view_answer.Reads as view-answer-reads
 use Rattle.monitor.proofs.view_place.Reads as view-place-reads
 use Rattle.monitor.proofs.view.Reads as view-reads
+
+-- ---- the parameters of a call: M, the seven lists, and the rest
+
+abbrev pub Passed : Type 0 → Type 0
+Passed Rest = ℕ × (Slice × (Slice × (Slice × (Slice × (Slice × (Slice × (Slice × Rest)))))))
+
+-- the lists at exit, with the M that was passed
+abbrev pub lists : {Rest End : Type 0} → Passed Rest → Passed End → Tables
+lists a s =
+    given (a .0) (s .1 .0) (s .1 .1 .0) (s .1 .1 .1 .0) (s .1 .1 .1 .1 .0) (s .1 .1 .1 .1 .1 .0) (s .1 .1 .1 .1 .1 .1 .0)
+    (s .1 .1 .1 .1 .1 .1 .1 .0)
+
+-- of `execute_all`, whose rest is the registers, the instructions and the lists of answers: both of these at exit
+abbrev pub answers : Passed (Registers × (Slice × (Slice × (Slice × Unit {0})))) → List ℕ × List ℕ
+answers s = (now (s .1 .1 .1 .1 .1 .1 .1 .1 .1 .1 .0), now (s .1 .1 .1 .1 .1 .1 .1 .1 .1 .1 .1 .0))
+
+-- ---- one outcome
 
 -- equal outcomes have equal replies
 pub same-reply : {r q : Reply} {t u : Tables} → came r t ≡ came q u → r ≡ q
@@ -23,40 +44,21 @@ view-answer-unique κs a r q s = one-outcome
 pub view-unique : (κs : _) (a : _) (r q : _) (s : _) → view-reads.Post κs a r s → view-reads.Post κs a q s → r .now ≡ q .now
 view-unique κs a r q s = one-outcome
 
--- the replies and every lent list at exit
+-- the reply and every lent list at exit
 pub execute-unique : (κs : _) (a : _) (r q : _) (s u : _) → execute-reads.Post κs a r s → execute-reads.Post κs a q u
-    → (r ≡ q) × (now (s .1 .1 .1 .1 .0) ≡ now (u .1 .1 .1 .1 .0)) × (now (s .1 .1 .1 .1 .1 .0) ≡ now (u .1 .1 .1 .1 .1 .0))
-    × (now (s .1 .1 .1 .1 .1 .1 .0) ≡ now (u .1 .1 .1 .1 .1 .1 .0)) × (now (s .1 .1 .1 .1 .1 .1 .1 .0) ≡ now (u .1 .1 .1 .1 .1 .1 .1 .0))
-execute-unique κs a r q s u e f =
-    let o = one-outcome e f in (
-      same-reply o,
-      ap (λ p. p .after .lent .marks) o,
-      ap (λ p. p .after .lent .rights) o,
-      ap (λ p. p .after .lent .grants) o,
-      ap (λ p. p .after .lent .memory) o,
-    )
+    → (r ≡ q) × (lists a s ≡ lists a u)
+execute-unique κs a r q s u e f = (same-reply (one-outcome e f), ap (λ o. o .after .lent) (one-outcome e f))
 
 pub write-block-unique : (κs : _) (a : _) (r q : _) (s u : _) → write-block-reads.Post κs a r s → write-block-reads.Post κs a q u
-    → (r ≡ q) × (now (s .1 .1 .1 .1 .1 .1 .1 .0) ≡ now (u .1 .1 .1 .1 .1 .1 .1 .0))
-write-block-unique κs a r q s u e f =
-    let o = one-outcome e f in
-    (same-reply o, ap (λ p. p .after .lent .memory) o)
+    → (r ≡ q) × (lists a s ≡ lists a u)
+write-block-unique κs a r q s u e f = (same-reply (one-outcome e f), ap (λ o. o .after .lent) (one-outcome e f))
 
 -- the registers, every lent list, and both lists of answers
 pub execute-all-unique : (κs : _) (a : _) (r q : _) (s u : _) → execute-all-reads.Post κs a r s → execute-all-reads.Post κs a q u
-    → (r ≡ q) × (now (s .1 .1 .1 .1 .0) ≡ now (u .1 .1 .1 .1 .0)) × (now (s .1 .1 .1 .1 .1 .0) ≡ now (u .1 .1 .1 .1 .1 .0))
-    × (now (s .1 .1 .1 .1 .1 .1 .0) ≡ now (u .1 .1 .1 .1 .1 .1 .0)) × (now (s .1 .1 .1 .1 .1 .1 .1 .0) ≡ now (u .1 .1 .1 .1 .1 .1 .1 .0))
-    × (now (s .1 .1 .1 .1 .1 .1 .1 .1 .1 .1 .0) ≡ now (u .1 .1 .1 .1 .1 .1 .1 .1 .1 .1 .0)) × (now (s .1 .1 .1 .1 .1 .1 .1 .1 .1 .1 .1 .0) ≡ now (u .1 .1 .1 .1 .1 .1 .1 .1 .1 .1 .1 .0))
+    → (r ≡ q) × (lists a s ≡ lists a u) × (answers s ≡ answers u)
 execute-all-unique κs a r q s u e f =
-    let o = one-outcome (e .0) (f .0) in (
-      ap (λ p. p .registers) o,
-      ap (λ p. p .lent .marks) o,
-      ap (λ p. p .lent .rights) o,
-      ap (λ p. p .lent .grants) o,
-      ap (λ p. p .lent .memory) o,
-      one-outcome (e .1 .0) (f .1 .0),
-      one-outcome (e .1 .1) (f .1 .1),
-    )
+    let o = one-outcome e f in
+    (ap (λ p. p .after .registers) o, ap (λ p. p .after .lent) o, λ i. (o i .numbers, o i .values))
 
 pub view-place-unique : (κs : _) (a : _) (r q : _) (s : _) → view-place-reads.Post κs a r s → view-place-reads.Post κs a q s → r ≡ q
 view-place-unique κs a r q s = one-outcome

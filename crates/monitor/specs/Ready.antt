@@ -4,10 +4,10 @@ use mathlib.Core.List.{List, []}
 use mathlib.Core.Bool.{cond}
 use lib.Dec.{eqb}
 use Rattle.rules.specs.Numbers.{Tables, State, state}
-use Rattle.rules.specs.Refusals.{Check, Outcome, firstFailing, firstChecks, refusedValue}
+use Rattle.rules.specs.Refusals.{Check, Outcome, answered, firstFailing, firstChecks, refusedValue}
 use Rattle.rules.specs.declared.Answer.{Answer}
 use Rattle.rules.specs.Instructions.{addressOf, cellAt, place}
-use Rattle.rules.specs.Calls.{readView, performed}
+use Rattle.rules.specs.Calls.{kindChecks, kindDone, readView, performed}
 use Rattle.rules.specs.declared.Instruction.{Instruction}
 use Rattle.rules.proofs.Decoding.{InRange}
 use Rattle.rules.proofs.Kept.{Begun, Covering}
@@ -23,6 +23,10 @@ pub record Ready (s : State) (i : Instruction) (c : ℕ) : Type 0 where
 -- a reply, with what is lent as it is then
 abbrev pub came : Reply → Tables → Outcome
 came r t = record { number = r .number; value = r .value; part = []; after = state t (r .registers) }
+
+-- what a well-formed instruction answers: its checks from 6 on, and what it does if they hold
+abbrev pub kindPerformed : State → Instruction → Outcome
+kindPerformed s i = answered s (kindChecks s i) (kindDone s i)
 
 -- what checks answer: the number of the first to fail, and the value that goes with it
 abbrev pub checksAnswer : List Check → State → Answer

@@ -2,7 +2,8 @@
 ghost use mathlib.Core.Path.{_≡_};
 ghost use Prim.Native.Nat.{_+_, _-_, _*_, _≤_, _<_};
 ghost use lib.ListN.{length, getD, set};
-ghost use Rattle.rules.specs.Numbers.{tables, state, join, grantEntry, rightsIn};
+ghost use Rattle.rules.specs.Numbers.{state, join, grantEntry, rightsIn};
+ghost use Rattle.rules.specs.Lent.{given, before, after};
 ghost use Rattle.rules.specs.Instructions.{needs};
 ghost use Rattle.rules.specs.Calls.{doneAt};
 ghost use Rattle.rules.proofs.Checks.{AllHold};
@@ -87,9 +88,10 @@ pub fn apply(
     c: usize,
     i: Instruction,
 ) -> Reply
-    requires { ⌜ Ready (state (tables m (now first) (now last) (now offset) (now marks) (now rights) (now grants) (now memory)) registers) i c ⌝ }
-    requires { ⌜ AllHold (needs (tables m (now first) (now last) (now offset) (now marks) (now rights) (now grants) (now memory)) (registers .current) c i) ⌝ }
-    ensures { λ r. ⌜ came r (tables m (now (first .entry)) (now (last .entry)) (now (offset .entry)) (now (marks .exit)) (now (rights .exit)) (now (grants .exit)) (now (memory .exit))) ≡ doneAt (state (tables m (now (first .entry)) (now (last .entry)) (now (offset .entry)) (now (marks .entry)) (now (rights .entry)) (now (grants .entry)) (now (memory .entry))) registers) c i ⌝ }
+    requires { ⌜ Ready (state (given m first last offset marks rights grants memory) registers) i c ⌝ }
+    requires { ⌜ AllHold (needs (given m first last offset marks rights grants memory) (registers .current) c i) ⌝ }
+    ensures { λ r. ⌜ came r (after m first last offset marks rights grants memory)
+        ≡ doneAt (state (before m first last offset marks rights grants memory) registers) c i ⌝ }
 {
     let d = registers.current as usize;
     let held = held_at(m, rights, c, d);

@@ -1,7 +1,8 @@
 // Blocks of bytes: where one lies, and how it is filled.
 ghost use mathlib.Core.Path.{_≡_};
 ghost use lib.ListN.{length};
-ghost use Rattle.rules.specs.Numbers.{tables, state};
+ghost use Rattle.rules.specs.Numbers.{state};
+ghost use Rattle.rules.specs.Lent.{given, before};
 ghost use Rattle.rules.specs.Blocks.{withinCell};
 ghost use Rattle.rules.proofs.Kept.{Begun};
 ghost use Rattle.monitor.specs.Leaves.{locatedIn};
@@ -47,8 +48,8 @@ pub fn locate(
     x: u32,
     n: usize,
 ) -> Located
-    requires { ⌜ Begun (state (tables m (now first) (now last) (now offset) (now marks) (now rights) (now grants) (now memory)) registers) ⌝ }
-    ensures { λ r. ⌜ r ≡ locatedIn needed (state (tables m (now (first .entry)) (now (last .entry)) (now (offset .entry)) (now (marks .entry)) (now (rights .entry)) (now (grants .entry)) (now (memory .entry))) registers) x n ⌝ }
+    requires { ⌜ Begun (state (given m first last offset marks rights grants memory) registers) ⌝ }
+    ensures { λ r. ⌜ r ≡ locatedIn needed (state (before m first last offset marks rights grants memory) registers) x n ⌝ }
 {
     let f = find(first, last, x);
     match f {

@@ -4,7 +4,8 @@ ghost use mathlib.Core.Path.{_≡_};
 ghost use mathlib.Core.List.{[], _∷_};
 ghost use mathlib.Core.Bool.{not};
 ghost use lib.Dec.{eqb};
-ghost use Rattle.rules.specs.Numbers.{tables, state, partOf, execute};
+ghost use Rattle.rules.specs.Numbers.{state, partOf, execute};
+ghost use Rattle.rules.specs.Lent.{given, before};
 ghost use Rattle.rules.specs.Instructions.{needs};
 ghost use Rattle.monitor.specs.Ready.{Ready};
 ghost use Rattle.rules.specs.Refusals.{notValid, notWhole, rightMissing, noGrant, otherHolds, notEntry, sameRights, _unless_, firstFailing};
@@ -119,8 +120,8 @@ pub fn judge(
     c: usize,
     i: Instruction,
 ) -> u32
-    requires { ⌜ Ready (state (tables m (now first) (now last) (now offset) (now marks) (now rights) (now grants) (now memory)) registers) i c ⌝ }
-    ensures { λ n. ⌜ n ≡ firstFailing (needs (tables m (now (first .entry)) (now (last .entry)) (now (offset .entry)) (now (marks .entry)) (now (rights .entry)) (now (grants .entry)) (now (memory .entry))) (registers .current) c i) ⌝ }
+    requires { ⌜ Ready (state (given m first last offset marks rights grants memory) registers) i c ⌝ }
+    ensures { λ n. ⌜ n ≡ firstFailing (needs (before m first last offset marks rights grants memory) (registers .current) c i) ⌝ }
 {
     let d = registers.current as usize;
     let valid = marks[c] == 1;

@@ -12,9 +12,9 @@ mod step;
 ghost use mathlib.Core.Path.{_≡_};
 ghost use mathlib.Core.Bool.{_&&_};
 ghost use lib.Dec.{ltb};
-ghost use lib.ListN.{length};
-ghost use Rattle.monitor.specs.Runs.{roomFor, afterFirst, numbersIn, valuesIn};
-ghost use Rattle.rules.specs.Numbers.{tables, state};
+ghost use Rattle.monitor.specs.Runs.{ran, runAll};
+ghost use Rattle.rules.specs.Numbers.{state};
+ghost use Rattle.rules.specs.Lent.{before, after};
 ghost use Rattle.rules.specs.Calls.{instruction, blockWrite, readView, performed};
 ghost use Rattle.monitor.specs.Ready.{firstAnswer, answerIn, viewPlaceIn, came};
 ghost use Rattle.monitor.specs.Leaves.{placedIn};
@@ -66,7 +66,7 @@ fn begin(
     memory: &[u8],
     registers: Registers,
 ) -> Answer
-    ensures { λ r. ⌜ r ≡ firstAnswer (state (tables m (now (first .entry)) (now (last .entry)) (now (offset .entry)) (now (marks .entry)) (now (rights .entry)) (now (grants .entry)) (now (memory .entry))) registers) ⌝ }
+    ensures { λ r. ⌜ r ≡ firstAnswer (state (before m first last offset marks rights grants memory) registers) ⌝ }
 {
     let checked = tables::check(m, first, last, offset, marks, rights, grants, memory);
     let n = checked.number;
@@ -87,7 +87,7 @@ fn begin(
     }
 }
 
-// One instruction, given as four numbers.
+// One instruction, given as four numbers: a listing of one, at position 1.
 pub fn execute(
     m: usize,
     first: &[u32],
@@ -103,7 +103,8 @@ pub fn execute(
     y: u32,
     z: u32,
 ) -> Reply
-    ensures { λ r. ⌜ came r (tables m (now (first .entry)) (now (last .entry)) (now (offset .entry)) (now (marks .exit)) (now (rights .exit)) (now (grants .exit)) (now (memory .exit))) ≡ performed (state (tables m (now (first .entry)) (now (last .entry)) (now (offset .entry)) (now (marks .entry)) (now (rights .entry)) (now (grants .entry)) (now (memory .entry))) registers) (instruction number x y z) ⌝ }
+    ensures { λ r. ⌜ came r (after m first last offset marks rights grants memory)
+        ≡ performed (state (before m first last offset marks rights grants memory) registers) (instruction number x y z) ⌝ }
 {
     let begun = begin(
         m,
@@ -128,6 +129,7 @@ pub fn execute(
             grants,
             memory,
             registers,
+            1,
             number,
             x,
             y,
@@ -154,9 +156,8 @@ pub fn execute_all(
     numbers: &mut [u32],
     values: &mut [u32],
 ) -> Registers
-    ensures { λ r. ⌜ state (tables m (now (first .entry)) (now (last .entry)) (now (offset .entry)) (now (marks .exit)) (now (rights .exit)) (now (grants .exit)) (now (memory .exit))) r ≡ afterFirst (state (tables m (now (first .entry)) (now (last .entry)) (now (offset .entry)) (now (marks .entry)) (now (rights .entry)) (now (grants .entry)) (now (memory .entry))) registers) (now (instructions .entry)) (roomFor (length (now (instructions .entry))) (length (now (numbers .entry))) (length (now (values .entry)))) ⌝ }
-    ensures { λ r. ⌜ now (numbers .exit) ≡ numbersIn (state (tables m (now (first .entry)) (now (last .entry)) (now (offset .entry)) (now (marks .entry)) (now (rights .entry)) (now (grants .entry)) (now (memory .entry))) registers) (now (instructions .entry)) (roomFor (length (now (instructions .entry))) (length (now (numbers .entry))) (length (now (values .entry)))) (now (numbers .entry)) ⌝ }
-    ensures { λ r. ⌜ now (values .exit) ≡ valuesIn (state (tables m (now (first .entry)) (now (last .entry)) (now (offset .entry)) (now (marks .entry)) (now (rights .entry)) (now (grants .entry)) (now (memory .entry))) registers) (now (instructions .entry)) (roomFor (length (now (instructions .entry))) (length (now (numbers .entry))) (length (now (values .entry)))) (now (values .entry)) ⌝ }
+    ensures { λ r. ⌜ ran (state (after m first last offset marks rights grants memory) r) (now (numbers .exit)) (now (values .exit))
+        ≡ runAll (state (before m first last offset marks rights grants memory) registers) (now (instructions .entry)) (now (numbers .entry)) (now (values .entry)) ⌝ }
 {
     let count = room_for(instructions.len(), numbers.len(), values.len());
     let begun = begin(
@@ -209,7 +210,7 @@ fn place_block(
     x: u32,
     n: usize,
 ) -> Located
-    ensures { λ r. ⌜ r ≡ placedIn needed (state (tables m (now (first .entry)) (now (last .entry)) (now (offset .entry)) (now (marks .entry)) (now (rights .entry)) (now (grants .entry)) (now (memory .entry))) registers) x n ⌝ }
+    ensures { λ r. ⌜ r ≡ placedIn needed (state (before m first last offset marks rights grants memory) registers) x n ⌝ }
 {
     let begun = begin(
         m,
@@ -257,7 +258,8 @@ pub fn write_block(
     x: u32,
     bytes: &[u8],
 ) -> Reply
-    ensures { λ r. ⌜ came r (tables m (now (first .entry)) (now (last .entry)) (now (offset .entry)) (now (marks .entry)) (now (rights .entry)) (now (grants .entry)) (now (memory .exit))) ≡ performed (state (tables m (now (first .entry)) (now (last .entry)) (now (offset .entry)) (now (marks .entry)) (now (rights .entry)) (now (grants .entry)) (now (memory .entry))) registers) (blockWrite x (now (bytes .entry))) ⌝ }
+    ensures { λ r. ⌜ came r (after m first last offset marks rights grants memory)
+        ≡ performed (state (before m first last offset marks rights grants memory) registers) (blockWrite x (now (bytes .entry))) ⌝ }
 {
     let located = place_block(
         rules::WRITE,
@@ -297,7 +299,7 @@ pub fn view<'a>(
     x: u32,
     n: usize,
 ) -> &'a [u8]
-    ensures { λ r. ⌜ now r ≡ performed (state (tables m (now (first .entry)) (now (last .entry)) (now (offset .entry)) (now (marks .entry)) (now (rights .entry)) (now (grants .entry)) (now (memory .entry))) registers) (readView x n) .part ⌝ }
+    ensures { λ r. ⌜ now r ≡ performed (state (before m first last offset marks rights grants memory) registers) (readView x n) .part ⌝ }
 {
     let located = place_block(
         rules::READ,
@@ -336,7 +338,7 @@ pub fn view_answer(
     x: u32,
     n: usize,
 ) -> Answer
-    ensures { λ r. ⌜ r ≡ answerIn (performed (state (tables m (now (first .entry)) (now (last .entry)) (now (offset .entry)) (now (marks .entry)) (now (rights .entry)) (now (grants .entry)) (now (memory .entry))) registers) (readView x n)) ⌝ }
+    ensures { λ r. ⌜ r ≡ answerIn (performed (state (before m first last offset marks rights grants memory) registers) (readView x n)) ⌝ }
 {
     let located = place_block(
         rules::READ,
@@ -375,7 +377,7 @@ pub fn view_place(
     x: u32,
     n: usize,
 ) -> ViewPlace
-    ensures { λ r. ⌜ r ≡ viewPlaceIn (state (tables m (now (first .entry)) (now (last .entry)) (now (offset .entry)) (now (marks .entry)) (now (rights .entry)) (now (grants .entry)) (now (memory .entry))) registers) x n ⌝ }
+    ensures { λ r. ⌜ r ≡ viewPlaceIn (state (before m first last offset marks rights grants memory) registers) x n ⌝ }
 {
     let located = place_block(
         rules::READ,

@@ -2,9 +2,10 @@
 ghost use mathlib.Core.Path.{_≡_};
 ghost use Prim.Native.Nat.{_*_, _≤_};
 ghost use lib.ListN.{length};
-ghost use Rattle.rules.specs.Numbers.{tables, state};
+ghost use Rattle.rules.specs.Numbers.{state};
+ghost use Rattle.rules.specs.Lent.{given, before, after};
 ghost use Rattle.rules.proofs.Kept.{Begun};
-ghost use Rattle.monitor.specs.Runs.{roomFor, afterFirst, numbersIn, valuesIn, filled};
+ghost use Rattle.monitor.specs.Runs.{roomFor, ran, runFirst, filled};
 use crate::step::perform;
 use rules::Registers;
 
@@ -49,11 +50,10 @@ pub fn run_list(
     numbers: &mut [u32],
     values: &mut [u32],
 ) -> Registers
-    requires { ⌜ Begun (state (tables m (now first) (now last) (now offset) (now marks) (now rights) (now grants) (now memory)) registers) ⌝ }
+    requires { ⌜ Begun (state (given m first last offset marks rights grants memory) registers) ⌝ }
     requires { ⌜ (4 * count ≤ length (now instructions)) × ((count ≤ length (now numbers)) × (count ≤ length (now values))) ⌝ }
-    ensures { λ r. ⌜ state (tables m (now (first .entry)) (now (last .entry)) (now (offset .entry)) (now (marks .exit)) (now (rights .exit)) (now (grants .exit)) (now (memory .exit))) r ≡ afterFirst (state (tables m (now (first .entry)) (now (last .entry)) (now (offset .entry)) (now (marks .entry)) (now (rights .entry)) (now (grants .entry)) (now (memory .entry))) registers) (now (instructions .entry)) count ⌝ }
-    ensures { λ r. ⌜ now (numbers .exit) ≡ numbersIn (state (tables m (now (first .entry)) (now (last .entry)) (now (offset .entry)) (now (marks .entry)) (now (rights .entry)) (now (grants .entry)) (now (memory .entry))) registers) (now (instructions .entry)) count (now (numbers .entry)) ⌝ }
-    ensures { λ r. ⌜ now (values .exit) ≡ valuesIn (state (tables m (now (first .entry)) (now (last .entry)) (now (offset .entry)) (now (marks .entry)) (now (rights .entry)) (now (grants .entry)) (now (memory .entry))) registers) (now (instructions .entry)) count (now (values .entry)) ⌝ }
+    ensures { λ r. ⌜ ran (state (after m first last offset marks rights grants memory) r) (now (numbers .exit)) (now (values .exit))
+        ≡ runFirst (state (before m first last offset marks rights grants memory) registers) (now (instructions .entry)) count (now (numbers .entry)) (now (values .entry)) ⌝ }
 {
     let mut core = registers;
     let mut k: usize = 0;
@@ -69,6 +69,7 @@ pub fn run_list(
             grants,
             memory,
             core,
+            k + 1,
             instructions[at],
             instructions[at + 1],
             instructions[at + 2],

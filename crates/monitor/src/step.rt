@@ -1,12 +1,12 @@
 // One well-formed instruction: the cell that covers its address is found, its checks are made, and then it is done.
 ghost use mathlib.Core.Path.{_≡_};
-ghost use Rattle.rules.specs.Numbers.{tables, state};
-ghost use Rattle.rules.specs.Refusals.{answered};
+ghost use Rattle.rules.specs.Numbers.{state};
+ghost use Rattle.rules.specs.Lent.{given, before, after};
 ghost use Rattle.rules.specs.Instructions.{addressOf};
-ghost use Rattle.rules.specs.Calls.{kindChecks, kindDone, instruction, performed};
+ghost use Rattle.rules.specs.Calls.{instruction, performed};
 ghost use Rattle.rules.proofs.Decoding.{InRange};
 ghost use Rattle.rules.proofs.Kept.{Begun};
-ghost use Rattle.monitor.specs.Ready.{came};
+ghost use Rattle.monitor.specs.Ready.{came, kindPerformed};
 use crate::Reply;
 use crate::apply::apply;
 use crate::back::refuse;
@@ -49,9 +49,10 @@ pub fn step(
     registers: Registers,
     i: Instruction,
 ) -> Reply
-    requires { ⌜ Begun (state (tables m (now first) (now last) (now offset) (now marks) (now rights) (now grants) (now memory)) registers) ⌝ }
+    requires { ⌜ Begun (state (given m first last offset marks rights grants memory) registers) ⌝ }
     requires { ⌜ InRange m (registers .current) i ⌝ }
-    ensures { λ r. ⌜ came r (tables m (now (first .entry)) (now (last .entry)) (now (offset .entry)) (now (marks .exit)) (now (rights .exit)) (now (grants .exit)) (now (memory .exit))) ≡ answered (state (tables m (now (first .entry)) (now (last .entry)) (now (offset .entry)) (now (marks .entry)) (now (rights .entry)) (now (grants .entry)) (now (memory .entry))) registers) (kindChecks (state (tables m (now (first .entry)) (now (last .entry)) (now (offset .entry)) (now (marks .entry)) (now (rights .entry)) (now (grants .entry)) (now (memory .entry))) registers) i) (kindDone (state (tables m (now (first .entry)) (now (last .entry)) (now (offset .entry)) (now (marks .entry)) (now (rights .entry)) (now (grants .entry)) (now (memory .entry))) registers) i) ⌝ }
+    ensures { λ r. ⌜ came r (after m first last offset marks rights grants memory)
+        ≡ kindPerformed (state (before m first last offset marks rights grants memory) registers) i ⌝ }
 {
     let f = find(first, last, address_of(i));
     match f {
@@ -91,7 +92,7 @@ pub fn step(
     }
 }
 
-// What four numbers answer and do, on tables and registers that checks 1, 2 and 3 let through.
+// What four numbers at a listing position answer and do, on tables and registers that checks 1, 2 and 3 let through.
 pub fn perform(
     m: usize,
     first: &[u32],
@@ -102,15 +103,17 @@ pub fn perform(
     grants: &mut [u16],
     memory: &mut [u8],
     registers: Registers,
+    position: usize,
     number: u32,
     x: u32,
     y: u32,
     z: u32,
 ) -> Reply
-    requires { ⌜ Begun (state (tables m (now first) (now last) (now offset) (now marks) (now rights) (now grants) (now memory)) registers) ⌝ }
-    ensures { λ r. ⌜ came r (tables m (now (first .entry)) (now (last .entry)) (now (offset .entry)) (now (marks .exit)) (now (rights .exit)) (now (grants .exit)) (now (memory .exit))) ≡ performed (state (tables m (now (first .entry)) (now (last .entry)) (now (offset .entry)) (now (marks .entry)) (now (rights .entry)) (now (grants .entry)) (now (memory .entry))) registers) (instruction number x y z) ⌝ }
+    requires { ⌜ Begun (state (given m first last offset marks rights grants memory) registers) ⌝ }
+    ensures { λ r. ⌜ came r (after m first last offset marks rights grants memory)
+        ≡ performed (state (before m first last offset marks rights grants memory) registers) (instruction number x y z) ⌝ }
 {
-    let decoded = rules::decode(m as u32, registers.current, 1, number, x, y, z);
+    let decoded = rules::decode(m as u32, registers.current, position, number, x, y, z);
     match decoded {
         Decoded::Refused(k) => refuse(k, 0, registers),
         Decoded::Kind(placed) => {

@@ -1,10 +1,10 @@
 -- What decoding yields: a kind with its operands in their ranges, or refusal 4 or 5. Shown once over the table.
 -- Assumes nothing.
 use Prim.Native.Nat.{ℕ, zero, suc, _≤_, _<_}
-use mathlib.Core.Path.{_≡_, refl}
+use mathlib.Core.Path.{_≡_, refl, sym, ap, _∙_}
 use mathlib.Core.Logic.{_⊎_, inl, inr}
 use mathlib.Core.Bool.{Bool, true, false}
-use mathlib.Core.List.{List, [], _∷_}
+use mathlib.Core.List.{List, [], _∷_, map}
 use lib.ListN.{getD}
 use Rattle.rules.specs.Refusals.{noSuchInstruction, badOperand}
 use Rattle.rules.specs.Instructions.{noOperands, byteOperand, divisionOperand, rightsOperand, grantOperands, sourceOperand, placed, instructionTable, decoded}
@@ -92,3 +92,35 @@ unfolding decoded
 decoded-sensible m d position number x y z =
     each-getD (Sensible m d) (instructionTable m d position x y z) number (Refused noSuchInstruction)
     (table-sensible m d position x y z) (inl refl)
+
+-- ---- the position
+
+getD-map : {A B : Type 0} (f : A → B) (l : List A) (n : ℕ) (a : A) → f (getD l n a) ≡ getD (map f l) n (f a)
+getD-map f [] n a = refl
+getD-map f (x ∷ l) zero a = refl
+getD-map f (x ∷ l) (suc n) a = getD-map f l n a
+
+-- what does not look at the position answers the same at any position
+pub decoded-anywhere : {A : Type 0} (f : Decoded → A) (m d p q number x y z : ℕ)
+    → ((ok : Bool) (i : Instruction) → f (placed p ok i) ≡ f (placed q ok i))
+    → f (decoded m d p number x y z) ≡ f (decoded m d q number x y z)
+unfolding decoded
+decoded-anywhere {A} f m d p q number x y z h =
+    getD-map f (instructionTable m d p x y z) number (Refused noSuchInstruction)
+    ∙ ap (λ (l : List A). getD l number (f (Refused noSuchInstruction))) rows
+    ∙ sym (getD-map f (instructionTable m d q x y z) number (Refused noSuchInstruction))
+  where
+    rows : map f (instructionTable m d p x y z) ≡ map f (instructionTable m d q x y z)
+    rows k =
+        h (noOperands y z) (Load x) k
+        ∷ h (byteOperand y z) (Store x y) k
+        ∷ h (noOperands y z) (Fetch x) k
+        ∷ h (divisionOperand m y z) (Switch x y) k
+        ∷ h (rightsOperand y z) (Protect x y) k
+        ∷ h (grantOperands m d y z) (Grant x y z) k
+        ∷ h (sourceOperand m d y z) (Receive x y) k
+        ∷ h (grantOperands m d y z) (Transfer x y z) k
+        ∷ h (noOperands y z) (Invalidate x) k
+        ∷ h (noOperands y z) (Revalidate x) k
+        ∷ h (noOperands y z) (Exclusive x) k
+        ∷ []

@@ -124,7 +124,7 @@ pub enum Instruction {
 
 // An instruction kept beside its listing position.
 pub struct Placed {
-    pub position: u32,
+    pub position: usize,
     pub instruction: Instruction,
 }
 
@@ -193,7 +193,7 @@ fn low_byte(x: u32) -> u8
 }
 
 // An instruction kept beside its position if its operands are in their ranges, else refusal 5.
-fn keep(at: u32, in_range: bool, instruction: Instruction) -> Decoded
+fn keep(at: usize, in_range: bool, instruction: Instruction) -> Decoded
     ensures { λ r. ⌜ r ≡ placed at «in_range» instruction ⌝ }
 {
     if in_range {
@@ -208,7 +208,7 @@ fn keep(at: u32, in_range: bool, instruction: Instruction) -> Decoded
 
 // The instruction that four numbers stand for where `d` of `m` divisions is current, kept beside its listing position
 // `at`; refusal 4 for another number, 5 for an operand outside its range.
-pub fn decode(m: u32, d: u32, at: u32, number: u32, x: u32, y: u32, z: u32) -> Decoded
+pub fn decode(m: u32, d: u32, at: usize, number: u32, x: u32, y: u32, z: u32) -> Decoded
     ensures { λ r. ⌜ r ≡ decoded m d at number x y z ⌝ }
 {
     match number {

@@ -7,7 +7,8 @@ ghost use Prim.Native.Nat.{_+_, _*_, _≤_, _<_};
 ghost use lib.ListN.{length, getD};
 ghost use lib.Dec.{leb, ltb, eqb};
 ghost use Rattle.rules.specs.Below.{every, count, lowest};
-ghost use Rattle.rules.specs.Numbers.{tables, inBounds};
+ghost use Rattle.rules.specs.Numbers.{inBounds};
+ghost use Rattle.rules.specs.Lent.{given, before};
 ghost use Rattle.rules.specs.Sound.{soundGrant, afterCellBefore, soundCell, lowestUnsound};
 ghost use Rattle.rules.specs.Refusals.{wellSized};
 ghost use Rattle.tables.specs.Check.{excess, tablesChecked};
@@ -104,7 +105,8 @@ fn wide(x: u32) -> usize
 // Whether cell `c`'s first is at most its last, and its bytes lie within the memory.
 fn sound_range(first: &[u32], last: &[u32], offset: &[u32], memory: &[u8], c: usize) -> bool
     requires { ⌜ (c < length (now first)) × ((c < length (now last)) × ((c < length (now offset)) × (length (now memory) ≤ 65536))) ⌝ }
-    ensures { λ r. ⌜ r ≡ (leb (getD (now (first .entry)) c 0) (getD (now (last .entry)) c 0) && ltb (getD (now (offset .entry)) c 0 + getD (now (last .entry)) c 0) (length (now (memory .entry)) + getD (now (first .entry)) c 0)) ⌝ }
+    ensures { λ r. ⌜ r ≡ (leb (getD (now (first .entry)) c 0) (getD (now (last .entry)) c 0)
+        && ltb (getD (now (offset .entry)) c 0 + getD (now (last .entry)) c 0) (length (now (memory .entry)) + getD (now (first .entry)) c 0)) ⌝ }
 {
     let f = wide(first[c]);
     let e = wide(last[c]);
@@ -139,10 +141,10 @@ fn sound_cell(
     memory: &[u8],
     c: usize,
 ) -> bool
-    requires { ⌜ wellSized (tables m (now first) (now last) (now offset) (now marks) (now rights) (now grants) (now memory)) ≡ true ⌝ }
+    requires { ⌜ wellSized (given m first last offset marks rights grants memory) ≡ true ⌝ }
     requires { ⌜ c < length (now first) ⌝ }
     requires { ⌜ excess m (now rights) c ≡ false ⌝ }
-    ensures { λ r. ⌜ r ≡ soundCell (tables m (now (first .entry)) (now (last .entry)) (now (offset .entry)) (now (marks .entry)) (now (rights .entry)) (now (grants .entry)) (now (memory .entry))) c ⌝ }
+    ensures { λ r. ⌜ r ≡ soundCell (before m first last offset marks rights grants memory) c ⌝ }
 {
     let start = c * m;
     let end = start + m;
@@ -186,8 +188,8 @@ fn lowest_unsound(
     grants: &[u16],
     memory: &[u8],
 ) -> usize
-    requires { ⌜ wellSized (tables m (now first) (now last) (now offset) (now marks) (now rights) (now grants) (now memory)) ≡ true ⌝ }
-    ensures { λ r. ⌜ r ≡ lowestUnsound (tables m (now (first .entry)) (now (last .entry)) (now (offset .entry)) (now (marks .entry)) (now (rights .entry)) (now (grants .entry)) (now (memory .entry))) ⌝ }
+    requires { ⌜ wellSized (given m first last offset marks rights grants memory) ≡ true ⌝ }
+    ensures { λ r. ⌜ r ≡ lowestUnsound (before m first last offset marks rights grants memory) ⌝ }
 {
     let end = lowest_excess(m, first.len(), rights);
     let mut c = 0;
@@ -219,7 +221,7 @@ fn well_sized(
     grants: &[u16],
     memory: &[u8],
 ) -> bool
-    ensures { λ r. ⌜ r ≡ wellSized (tables m (now (first .entry)) (now (last .entry)) (now (offset .entry)) (now (marks .entry)) (now (rights .entry)) (now (grants .entry)) (now (memory .entry))) ⌝ }
+    ensures { λ r. ⌜ r ≡ wellSized (before m first last offset marks rights grants memory) ⌝ }
 {
     let n = first.len();
     if in_bounds(m, n, memory.len()) {
@@ -246,7 +248,7 @@ pub fn check(
     grants: &[u16],
     memory: &[u8],
 ) -> Answer
-    ensures { λ r. ⌜ r ≡ tablesChecked (tables m (now (first .entry)) (now (last .entry)) (now (offset .entry)) (now (marks .entry)) (now (rights .entry)) (now (grants .entry)) (now (memory .entry))) ⌝ }
+    ensures { λ r. ⌜ r ≡ tablesChecked (before m first last offset marks rights grants memory) ⌝ }
 {
     if well_sized(m, first, last, offset, marks, rights, grants, memory) {
         let c = lowest_unsound(m, first, last, offset, marks, rights, grants, memory);

@@ -7,6 +7,8 @@ use mathlib.Core.Bool.{cond}
 use lib.ListN.{length, getD, take}
 use lib.Seq.{sets}
 use lib.Dec.{leb, ltb}
+use denote.Ref.{RefT, now}
+use denote.Triple.Both.{Both}
 use Rattle.text.specs.Line.{tab, lineFeed}
 
 -- ---- the text
@@ -35,6 +37,10 @@ rowText w v k = cond (leb k 5) (w ++ fieldsText k 0 v) []
 pub record Put (before : List ℕ) (at : ℕ) (t : List ℕ) (r : ℕ) (after : List ℕ) : Type 0 where
   pub place : r ≡ at + length t
   pub bytes : after ≡ sets before at t
+
+-- the same of a lent buffer, as it was and as it comes back
+abbrev pub Puts : Both (RefT (List ℕ)) (RefT (List ℕ)) → (at : ℕ) (t : List ℕ) (r : ℕ) → Type 0
+Puts out at t r = Put (now (out .entry)) at t r (now (out .exit))
 
 -- the text t, where the buffer has n bytes from a place on, and nothing where it has not
 abbrev pub inRoom : (before : List ℕ) (at n : ℕ) (t : List ℕ) → List ℕ

@@ -4,7 +4,7 @@ ghost use mathlib.Core.Path.{_≡_};
 ghost use mathlib.Core.Bool.{_&&_};
 ghost use Prim.Native.Nat.{_+_, _*_};
 ghost use lib.Dec.{leb};
-ghost use Rattle.text.specs.Text.{Put, Ends, numberIn, wordIn, rowIn};
+ghost use Rattle.text.specs.Text.{Puts, Ends, numberIn, wordIn, rowIn};
 use crate::write::write_fields;
 use crate::write::write_number;
 use crate::write::write_word;
@@ -33,8 +33,7 @@ fn row_has_room(at: usize, word: usize, k: usize, len: usize) -> bool
 
 // The word, or any other bytes.
 pub fn put_word(out: &mut [u8], at: usize, word: &[u8]) -> usize
-    ensures { λ r. ⌜ Put (now (out .entry)) at (wordIn (now (out .entry)) at (now (word .entry)))
-        r (now (out .exit)) ⌝ }
+    ensures { λ r. ⌜ Puts out at (wordIn (now (out .entry)) at (now (word .entry))) r ⌝ }
     ensures { λ r. ⌜ Ends at r (now (out .exit)) ⌝ }
 {
     if has_room(at, word.len(), out.len()) {
@@ -46,8 +45,7 @@ pub fn put_word(out: &mut [u8], at: usize, word: &[u8]) -> usize
 
 // The number in decimal, where there is room for ten digits.
 pub fn put_number(out: &mut [u8], at: usize, n: u32) -> usize
-    ensures { λ r. ⌜ Put (now (out .entry)) at (numberIn (now (out .entry)) at n)
-        r (now (out .exit)) ⌝ }
+    ensures { λ r. ⌜ Puts out at (numberIn (now (out .entry)) at n) r ⌝ }
     ensures { λ r. ⌜ Ends at r (now (out .exit)) ⌝ }
 {
     if has_room(at, 10, out.len()) {
@@ -59,8 +57,7 @@ pub fn put_number(out: &mut [u8], at: usize, n: u32) -> usize
 
 // The line of a keyword and the first k numbers, at most five.
 pub fn put_row(out: &mut [u8], at: usize, word: &[u8], v: [u32; 5], k: usize) -> usize
-    ensures { λ r. ⌜ Put (now (out .entry)) at (rowIn (now (out .entry)) at (now (word .entry)) v k)
-        r (now (out .exit)) ⌝ }
+    ensures { λ r. ⌜ Puts out at (rowIn (now (out .entry)) at (now (word .entry)) v k) r ⌝ }
     ensures { λ r. ⌜ Ends at r (now (out .exit)) ⌝ }
 {
     if row_has_room(at, word.len(), k, out.len()) {

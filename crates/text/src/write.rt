@@ -3,7 +3,7 @@
 ghost use mathlib.Core.Path.{_≡_};
 ghost use Prim.Native.Nat.{_+_, _*_, _≤_, _<_};
 ghost use lib.ListN.{length, set};
-ghost use Rattle.text.specs.Text.{Put, decimalIn, decimal, fieldsText};
+ghost use Rattle.text.specs.Text.{Puts, decimalIn, decimal, fieldsText};
 
 const TAB: u8 = 9;
 
@@ -21,7 +21,7 @@ fn write_byte(out: &mut [u8], at: usize, b: u8) -> usize
 // counted and nothing is turned round.
 fn write_digits(out: &mut [u8], at: usize, n: u32, f: usize) -> usize
     requires { ⌜ at + f ≤ length (now out) ⌝ }
-    ensures { λ r. ⌜ Put (now (out .entry)) at (decimalIn f n) r (now (out .exit)) ⌝ }
+    ensures { λ r. ⌜ Puts out at (decimalIn f n) r ⌝ }
 {
     if f == 0 {
         return at;
@@ -36,14 +36,14 @@ fn write_digits(out: &mut [u8], at: usize, n: u32, f: usize) -> usize
 // A number in decimal; ten digits are enough for a `u32`.
 pub fn write_number(out: &mut [u8], at: usize, n: u32) -> usize
     requires { ⌜ at + 10 ≤ length (now out) ⌝ }
-    ensures { λ r. ⌜ Put (now (out .entry)) at (decimal n) r (now (out .exit)) ⌝ }
+    ensures { λ r. ⌜ Puts out at (decimal n) r ⌝ }
 {
     write_digits(out, at, n, 10)
 }
 
 pub fn write_word(out: &mut [u8], at: usize, word: &[u8]) -> usize
     requires { ⌜ at + length (now word) ≤ length (now out) ⌝ }
-    ensures { λ r. ⌜ Put (now (out .entry)) at (now (word .entry)) r (now (out .exit)) ⌝ }
+    ensures { λ r. ⌜ Puts out at (now (word .entry)) r ⌝ }
 {
     let mut i = at;
     let mut j = 0;
@@ -58,7 +58,7 @@ pub fn write_word(out: &mut [u8], at: usize, word: &[u8]) -> usize
 // A tab before each of the first k numbers, and the line feed.
 pub fn write_fields(out: &mut [u8], at: usize, v: [u32; 5], k: usize) -> usize
     requires { ⌜ (k ≤ 5) × (at + 11 * k + 1 ≤ length (now out)) ⌝ }
-    ensures { λ r. ⌜ Put (now (out .entry)) at (fieldsText k 0 v) r (now (out .exit)) ⌝ }
+    ensures { λ r. ⌜ Puts out at (fieldsText k 0 v) r ⌝ }
 {
     let mut i = at;
     let mut j = 0;

@@ -1,8 +1,8 @@
 use mathlib.Core.Path.{sym, _∙_}
 use mathlib.Core.Bool.{true, false}
-use denote.Ref.{now}
 use borrow.Author.Needs.{needs}
-use Rattle.rules.specs.Numbers.{State, state, tables}
+use Rattle.rules.specs.Numbers.{State, state}
+use Rattle.rules.specs.Lent.{given}
 use Rattle.rules.specs.Refusals.{knownDivisions}
 use Rattle.monitor.proofs.Beginning.{tables-refuse, divisions-decide}
 use Rattle.monitor.proofs.begin.Statement.{statement}
@@ -11,8 +11,7 @@ use Rattle.monitor.proofs.begin.Tie as tie
 abbrev st : tie.Start → State
 st c =
     state
-    (tables (c .args .m) (now (c .args .first)) (now (c .args .last)) (now (c .args .offset)) (now (c .args .marks))
-    (now (c .args .rights)) (now (c .args .grants)) (now (c .args .memory)))
+    (given (c .args .m) (c .args .first) (c .args .last) (c .args .offset) (c .args .marks) (c .args .rights) (c .args .grants) (c .args .memory))
     (c .args .registers)
 
 abbrev start : tie.After-check → tie.Start

@@ -1,7 +1,7 @@
 -- Checks 1, 2 and 3, and then the four numbers: each return is one law of `Beginning`, or what `perform` says.
 use borrow.Author.Needs.{needs}
-use denote.Ref.{now}
-use Rattle.rules.specs.Numbers.{State, tables, state}
+use Rattle.rules.specs.Numbers.{State, state}
+use Rattle.rules.specs.Lent.{given}
 use Rattle.rules.specs.Calls.{instruction}
 use Rattle.monitor.proofs.Beginning.{first-begun, first-refuse}
 use Rattle.monitor.proofs.execute.Statement.{statement}
@@ -14,8 +14,7 @@ start c = c .before .before .before .before .before .before .before .before .bef
 abbrev st : tie.Start → State
 st c =
     state
-    (tables (c .args .m) (now (c .args .first)) (now (c .args .last)) (now (c .args .offset)) (now (c .args .marks))
-    (now (c .args .rights)) (now (c .args .grants)) (now (c .args .memory)))
+    (given (c .args .m) (c .args .first) (c .args .last) (c .args .offset) (c .args .marks) (c .args .rights) (c .args .grants) (c .args .memory))
     (c .args .registers)
 
 begin-requires : tie.Need-begin-requires

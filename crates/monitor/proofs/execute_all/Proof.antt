@@ -1,14 +1,13 @@
 -- Checks 1, 2 and 3 once, and then the list, or every answer filled with their refusal.
 use borrow.Author.Needs.{needs}
-use Prim.Native.Nat.{ℕ, _≤_, _*_}
-use mathlib.Core.Path.{ap, _∙_}
+use Prim.Native.Nat.{_≤_, _*_}
 use native.Mathlib.Omega.{arith}
 use lib.ListN.{length}
 use denote.Ref.{now}
-use Rattle.rules.specs.Numbers.{State, tables, state}
-use Rattle.monitor.specs.Runs.{afterFirst, numbersIn, valuesIn}
+use Rattle.rules.specs.Numbers.{State, state}
+use Rattle.rules.specs.Lent.{given}
 use Rattle.monitor.proofs.Beginning.{first-begun}
-use Rattle.monitor.proofs.Running.{room-whole, room-numbers, room-values, refused-state, refused-numbers, refused-values}
+use Rattle.monitor.proofs.Running.{room-whole, room-numbers, room-values, ran-as, refused-ran}
 use Rattle.monitor.proofs.execute_all.Statement.{statement}
 use Rattle.monitor.proofs.execute_all.Tie as tie
 
@@ -22,8 +21,7 @@ start c = counted c .before .before .before .before .before .before .before .bef
 abbrev st : tie.Start → State
 st c =
     state
-    (tables (c .args .m) (now (c .args .first)) (now (c .args .last)) (now (c .args .offset)) (now (c .args .marks))
-    (now (c .args .rights)) (now (c .args .grants)) (now (c .args .memory)))
+    (given (c .args .m) (c .args .first) (c .args .last) (c .args .offset) (c .args .marks) (c .args .rights) (c .args .grants) (c .args .memory))
     (c .args .registers)
 
 -- the three lists lent beside the tables are long enough for the count
@@ -85,13 +83,7 @@ returns c =
     let begun = ran .before .before .before .before .before .before .before in
     let s = start (begun .before) in
     let l = s .args .instructions .now in
-    let e = counted (begun .before) .room-for .ensures in (
-      ran .run-list .ensures .0 ∙ ap (afterFirst (st s) l) e,
-      (
-        ran .run-list .ensures .1 .0 ∙ ap (λ (j : ℕ). numbersIn (st s) l j (s .args .numbers .now)) e,
-        ran .run-list .ensures .1 .1 ∙ ap (λ (j : ℕ). valuesIn (st s) l j (s .args .values .now)) e,
-      ),
-    )
+    ran-as (st s) l (s .args .numbers .now) (s .args .values .now) (counted (begun .before) .room-for .ensures) (ran .run-list .ensures)
 
 same-length-7 : tie.Need-same-length-7
 same-length-7 c = search needs
@@ -118,14 +110,8 @@ returns-2 c =
     let refused = first .before .before in
     let s = start (refused .before) in
     let l = s .args .instructions .now in
-    let a = refused .before .begin .ensures in
-    let e = counted (refused .before) .room-for .ensures in (
-      refused-state (st s) _ a (refused .if1 .left) l _,
-      (
-        first .fill .ensures ∙ refused-numbers (st s) _ a (refused .if1 .left) l _ _ ∙ ap (λ (j : ℕ). numbersIn (st s) l j (s .args .numbers .now)) e,
-        last .fill2 .ensures ∙ refused-values (st s) _ a (refused .if1 .left) l _ _ ∙ ap (λ (j : ℕ). valuesIn (st s) l j (s .args .values .now)) e,
-      ),
-    )
+    ran-as (st s) l (s .args .numbers .now) (s .args .values .now) (counted (refused .before) .room-for .ensures)
+    (refused-ran (st s) _ (refused .before .begin .ensures) (refused .if1 .left) l _ (s .args .numbers .now) (s .args .values .now) (first .fill .ensures) (last .fill2 .ensures))
 
 pub execute-all-spec : {M : Type 1} → statement M
 execute-all-spec =

@@ -1,6 +1,6 @@
-use denote.Ref.{now}
 use borrow.Author.Needs.{needs}
-use Rattle.rules.specs.Numbers.{State, state, tables}
+use Rattle.rules.specs.Numbers.{State, state}
+use Rattle.rules.specs.Lent.{given}
 use Rattle.monitor.proofs.Beginning.{first-begun}
 use Rattle.monitor.proofs.Locating.{placed-after, placed-refused}
 use Rattle.monitor.proofs.place_block.Statement.{statement}
@@ -9,8 +9,7 @@ use Rattle.monitor.proofs.place_block.Tie as tie
 abbrev st : tie.Start → State
 st c =
     state
-    (tables (c .args .m) (now (c .args .first)) (now (c .args .last)) (now (c .args .offset)) (now (c .args .marks))
-    (now (c .args .rights)) (now (c .args .grants)) (now (c .args .memory)))
+    (given (c .args .m) (c .args .first) (c .args .last) (c .args .offset) (c .args .marks) (c .args .rights) (c .args .grants) (c .args .memory))
     (c .args .registers)
 
 abbrev start : tie.After-begin → tie.Start

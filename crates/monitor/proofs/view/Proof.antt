@@ -2,9 +2,9 @@ use Prim.Native.Nat.{ℕ}
 use mathlib.Core.Path.{ap}
 use mathlib.Core.List.{List}
 use native.Mathlib.Omega.{arith}
-use denote.Ref.{now}
 use borrow.Author.Needs.{needs}
-use Rattle.rules.specs.Numbers.{State, state, tables, read}
+use Rattle.rules.specs.Numbers.{State, state, read}
+use Rattle.rules.specs.Lent.{given}
 use Rattle.rules.specs.Refusals.{Outcome}
 use Rattle.monitor.proofs.Locating.{BlockAt, view-refuse, block-at, read-view}
 use Rattle.monitor.proofs.view.Statement.{statement}
@@ -13,8 +13,7 @@ use Rattle.monitor.proofs.view.Tie as tie
 abbrev st : tie.Start → State
 st c =
     state
-    (tables (c .args .m) (now (c .args .first)) (now (c .args .last)) (now (c .args .offset)) (now (c .args .marks))
-    (now (c .args .rights)) (now (c .args .grants)) (now (c .args .memory)))
+    (given (c .args .m) (c .args .first) (c .args .last) (c .args .offset) (c .args .marks) (c .args .rights) (c .args .grants) (c .args .memory))
     (c .args .registers)
 
 abbrev part : Outcome → List ℕ

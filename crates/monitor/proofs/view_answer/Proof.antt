@@ -1,7 +1,7 @@
 use mathlib.Core.Path.{ap}
-use denote.Ref.{now}
 use borrow.Author.Needs.{needs}
-use Rattle.rules.specs.Numbers.{State, state, tables, read}
+use Rattle.rules.specs.Numbers.{State, state, read}
+use Rattle.rules.specs.Lent.{given}
 use Rattle.monitor.specs.Ready.{answerIn}
 use Rattle.monitor.proofs.Locating.{view-refuse, block-at, read-view}
 use Rattle.monitor.proofs.view_answer.Statement.{statement}
@@ -10,8 +10,7 @@ use Rattle.monitor.proofs.view_answer.Tie as tie
 abbrev st : tie.Start → State
 st c =
     state
-    (tables (c .args .m) (now (c .args .first)) (now (c .args .last)) (now (c .args .offset)) (now (c .args .marks))
-    (now (c .args .rights)) (now (c .args .grants)) (now (c .args .memory)))
+    (given (c .args .m) (c .args .first) (c .args .last) (c .args .offset) (c .args .marks) (c .args .rights) (c .args .grants) (c .args .memory))
     (c .args .registers)
 
 abbrev start : tie.After-place-block → tie.Start

@@ -1,6 +1,6 @@
-use denote.Ref.{now}
 use borrow.Author.Needs.{needs}
-use Rattle.rules.specs.Numbers.{State, state, tables, read}
+use Rattle.rules.specs.Numbers.{State, state, read}
+use Rattle.rules.specs.Lent.{given}
 use Rattle.monitor.proofs.Locating.{block-at, viewed-refused, viewed-at}
 use Rattle.monitor.proofs.view_place.Statement.{statement}
 use Rattle.monitor.proofs.view_place.Tie as tie
@@ -8,8 +8,7 @@ use Rattle.monitor.proofs.view_place.Tie as tie
 abbrev st : tie.Start → State
 st c =
     state
-    (tables (c .args .m) (now (c .args .first)) (now (c .args .last)) (now (c .args .offset)) (now (c .args .marks))
-    (now (c .args .rights)) (now (c .args .grants)) (now (c .args .memory)))
+    (given (c .args .m) (c .args .first) (c .args .last) (c .args .offset) (c .args .marks) (c .args .rights) (c .args .grants) (c .args .memory))
     (c .args .registers)
 
 abbrev start : tie.After-place-block → tie.Start

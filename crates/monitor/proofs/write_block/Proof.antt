@@ -4,7 +4,8 @@ use native.Mathlib.Omega.{arith}
 use lib.ListN.{length}
 use denote.Ref.{now}
 use borrow.Author.Needs.{needs}
-use Rattle.rules.specs.Numbers.{State, state, tables, write}
+use Rattle.rules.specs.Numbers.{State, state, write}
+use Rattle.rules.specs.Lent.{given}
 use Rattle.monitor.proofs.Locating.{BlockAt, write-refuse, block-at, block-write}
 use Rattle.monitor.proofs.write_block.Statement.{statement}
 use Rattle.monitor.proofs.write_block.Tie as tie
@@ -12,8 +13,7 @@ use Rattle.monitor.proofs.write_block.Tie as tie
 abbrev st : tie.Start → State
 st c =
     state
-    (tables (c .args .m) (now (c .args .first)) (now (c .args .last)) (now (c .args .offset)) (now (c .args .marks))
-    (now (c .args .rights)) (now (c .args .grants)) (now (c .args .memory)))
+    (given (c .args .m) (c .args .first) (c .args .last) (c .args .offset) (c .args .marks) (c .args .rights) (c .args .grants) (c .args .memory))
     (c .args .registers)
 
 abbrev start : tie.After-place-block → tie.Start

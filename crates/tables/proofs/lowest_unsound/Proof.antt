@@ -4,8 +4,8 @@ use mathlib.Core.Path.{_≡_, sym, ap, _∙_}
 use mathlib.Core.Bool.{not}
 use native.Mathlib.Omega.{arith}
 use borrow.Author.Needs.{needs}
-use denote.Ref.{now}
 use Rattle.rules.specs.Numbers.{Tables, tables, N}
+use Rattle.rules.specs.Lent.{given}
 use Rattle.rules.specs.Sound.{soundCell, lowestUnsound}
 use Rattle.rules.proofs.Below.{Searched, searched-none, searched-here, searched-later}
 use Rattle.rules.proofs.Sizes.{sized, entries-few}
@@ -26,8 +26,7 @@ start c = c .before .before .before .before .before .before .before
 
 abbrev lent : tie.Start Inv-loop μ-loop → Tables
 lent c =
-    tables (c .args .m) (now (c .args .first)) (now (c .args .last)) (now (c .args .offset)) (now (c .args .marks))
-    (now (c .args .rights)) (now (c .args .grants)) (now (c .args .memory))
+    given (c .args .m) (c .args .first) (c .args .last) (c .args .offset) (c .args .marks) (c .args .rights) (c .args .grants) (c .args .memory)
 
 -- the cell that is looked at
 its-cell : (c : tie.In-loop Inv-loop μ-loop) → Moderate (lent (start (c .before .before .before))) (c .before .loop .c)

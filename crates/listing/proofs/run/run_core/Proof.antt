@@ -4,8 +4,8 @@ use native.Mathlib.Omega.{arith}
 use lib.ListN.{length, take}
 use lib.Seq.{length-take-le}
 use borrow.Author.Tests.{not-true, not-false}
-use denote.Ref.{now}
-use Rattle.rules.specs.Numbers.{Tables, tables}
+use Rattle.rules.specs.Numbers.{Tables}
+use Rattle.rules.specs.Lent.{given}
 use Rattle.text.specs.declared.line.Row.{Row}
 use Rattle.listing.specs.Lines.{coreRow}
 use Rattle.listing.specs.Listing.{Dos}
@@ -16,8 +16,7 @@ use Rattle.listing.proofs.run.run_core.Tie as tie
 
 abbrev lent : tie.Start → Tables
 lent c =
-    tables (c .args .m) (now (c .args .first)) (now (c .args .last)) (now (c .args .offset)) (now (c .args .marks)) (now (c .args .rights))
-    (now (c .args .grants)) (now (c .args .memory))
+    given (c .args .m) (c .args .first) (c .args .last) (c .args .offset) (c .args .marks) (c .args .rights) (c .args .grants) (c .args .memory)
 
 -- the start, from where the core line was read
 abbrev start : tie.After-core-row → tie.Start

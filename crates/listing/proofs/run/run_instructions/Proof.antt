@@ -1,6 +1,6 @@
 use native.Mathlib.Omega.{arith}
-use denote.Ref.{now}
-use Rattle.rules.specs.Numbers.{State, state, tables}
+use Rattle.rules.specs.Numbers.{State, state}
+use Rattle.rules.specs.Lent.{given}
 use Rattle.listing.proofs.Whole.{run-body}
 use borrow.Author.Needs.{needs}
 use Rattle.listing.proofs.run.run_instructions.Statement.{statement}
@@ -13,8 +13,7 @@ entry c = c .before .before .before .before .before .before .before .before .bef
 abbrev start : tie.Start → State
 start c =
     state
-    (tables (c .args .m) (now (c .args .first)) (now (c .args .last)) (now (c .args .offset)) (now (c .args .marks)) (now (c .args .rights))
-    (now (c .args .grants)) (now (c .args .memory)))
+    (given (c .args .m) (c .args .first) (c .args .last) (c .args .offset) (c .args .marks) (c .args .rights) (c .args .grants) (c .args .memory))
     (c .args .registers)
 
 execute-all-requires : tie.Need-execute-all-requires
@@ -74,8 +73,8 @@ returns c =
     let a = entry ran in
     let asked = a .pre in (
       run-body (start a) (a .args .instructions .now) (a .args .count) (asked .1 .4) (asked .1 .5) (e .last .1 .1 .1 .1 .1 .1 .1 .1 .1 .1 .0)
-          (e .last .1 .1 .1 .1 .1 .1 .1 .1 .1 .1 .1 .0) (a .args .numbers .now) (a .args .values .now) _ (asked .0 .0) (asked .0 .1) (e .ensures .0)
-          (e .ensures .1 .0) (e .ensures .1 .1) (p .ensures .0) (q .ensures .0),
+          (e .last .1 .1 .1 .1 .1 .1 .1 .1 .1 .1 .1 .0) (a .args .numbers .now) (a .args .values .now) _ (asked .0 .0) (asked .0 .1) (e .ensures)
+          (p .ensures .0) (q .ensures .0),
       omega (arith, p .ensures .1, q .ensures .1, asked .1 .5, asked .1 .6 .head),
     )
 

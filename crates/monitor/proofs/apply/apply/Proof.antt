@@ -1,13 +1,10 @@
 -- What a callee requires follows from what the public call tested and from the operands of the arm's kind. At an arm's
--- end its kind's equation and what its callees ensure are rewritten, and both sides are then the same outcome; the value
--- of a protect, a receive or a transfer is what the current division holds after the put.
-use denote.Ref.{now}
+-- end the law of its kind turns what its callees ensure into the rules' outcome.
 use borrow.Author.Needs.{needs}
-use Rattle.rules.specs.Numbers.{State, tables, state}
-use Rattle.rules.specs.Instructions.{place, effect, registersAfter, valueOf, nobodyElse}
-use Rattle.rules.specs.Calls.{doneAt}
+use Rattle.rules.specs.Numbers.{State, state}
+use Rattle.rules.specs.Lent.{given}
 use Rattle.monitor.specs.Ready.{Ready}
-use Rattle.monitor.proofs.Applying.{one-if, cell-there, row-there, own-rights, own-grant, own-put, place-there, byte-there, word-there, grant-fits, transfer-fits, source-grant}
+use Rattle.monitor.proofs.Applying.{cell-there, row-there, own-rights, own-grant, place-there, byte-there, word-there, grant-fits, transfer-fits, source-grant, load-done, store-done, fetch-done, switch-done, protect-done, grant-done, receive-done, transfer-done, invalidate-done, revalidate-done, exclusive-done}
 use Rattle.monitor.proofs.apply.apply.Statement.{statement}
 use Rattle.monitor.proofs.apply.apply.Tie as tie
 
@@ -17,10 +14,9 @@ start c = c .before .before .before .before .before .before .before .before .bef
 -- what was lent, and the registers
 abbrev st : tie.Start → State
 st c =
-    let a = c .args in
     state
-    (tables (a .m) (now (a .first)) (now (a .last)) (now (a .offset)) (now (a .marks)) (now (a .rights)) (now (a .grants)) (now (a .memory)))
-    (a .registers)
+    (given (c .args .m) (c .args .first) (c .args .last) (c .args .offset) (c .args .marks) (c .args .rights) (c .args .grants) (c .args .memory))
+    (c .args .registers)
 
 ready : (c : tie.After-held-at-arg) → Ready (st (start c)) (start c .args .i) (start c .args .c)
 ready c = start c .pre .0
@@ -208,11 +204,10 @@ same-length-2 : tie.Need-same-length-2
 same-length-2 c = search needs
 
 returns : tie.Need-returns
-unfolding doneAt effect valueOf registersAfter place
 returns c =
     let at = c .before .before in
     let arm = at .before .before .before in
-    rw (arm .i .given .1, c .accept .ensures, c .before .byte-in .ensures .0, at .place-of .ensures)
+    load-done (ready (arm .before .before .before)) (arm .i .given .1) (at .place-of .ensures) (c .before .byte-in .ensures .0) (c .accept .ensures)
 
 -- store, at its end
 same-length-3 : tie.Need-same-length-3
@@ -222,12 +217,11 @@ same-length-4 : tie.Need-same-length-4
 same-length-4 c = search needs
 
 returns-2 : tie.Need-returns-2
-unfolding doneAt effect valueOf registersAfter place
 returns-2 c =
     let put = c .before .before .before in
     let at = put .before in
     let arm = at .before .before .before in
-    rw (arm .i2 .given .1, c .accept2 .ensures, put .put-byte .ensures, at .place-of2 .ensures)
+    store-done (ready (arm .before .before .before)) (arm .i2 .given .1) (at .place-of2 .ensures) (put .put-byte .ensures) (c .accept2 .ensures)
 
 -- fetch, at its end
 same-length-5 : tie.Need-same-length-5
@@ -237,32 +231,29 @@ same-length-6 : tie.Need-same-length-6
 same-length-6 c = search needs
 
 returns-3 : tie.Need-returns-3
-unfolding doneAt effect valueOf registersAfter place
 returns-3 c =
     let at = c .before .before in
     let arm = at .before .before .before in
-    rw (arm .i3 .given .1, c .accept3 .ensures, c .before .word-in .ensures, at .place-of3 .ensures)
+    fetch-done (ready (arm .before .before .before)) (arm .i3 .given .1) (at .place-of3 .ensures) (c .before .word-in .ensures) (c .accept3 .ensures)
 
 -- switch, at its end
 same-length-7 : tie.Need-same-length-7
 same-length-7 c = search needs
 
 returns-4 : tie.Need-returns-4
-unfolding doneAt effect valueOf registersAfter
 returns-4 c =
     let arm = c .before .before .before in
-    rw (arm .i4 .given .1, c .accept4 .ensures, c .before .after-switch .ensures)
+    switch-done (ready (arm .before .before .before)) (arm .i4 .given .1) (c .before .after-switch .ensures) (c .accept4 .ensures)
 
 -- protect, at its end
 same-length-8 : tie.Need-same-length-8
 same-length-8 c = search needs
 
 returns-5 : tie.Need-returns-5
-unfolding doneAt effect valueOf registersAfter
 returns-5 c =
     let put = c .before .before .before in
     let arm = put .before .before .before in
-    rw (arm .i5 .given .1, c .accept5 .ensures, put .put-rights .ensures, own-put (ready (arm .before .before .before)))
+    protect-done (ready (arm .before .before .before)) (arm .i5 .given .1) (put .put-rights .ensures) (c .accept5 .ensures)
 
 -- grant, at its end
 same-length-9 : tie.Need-same-length-9
@@ -272,18 +263,12 @@ same-length-10 : tie.Need-same-length-10
 same-length-10 c = search needs
 
 returns-6 : tie.Need-returns-6
-unfolding doneAt effect valueOf registersAfter
 returns-6 c =
     let put = c .before .before .before in
     let offer = put .before in
     let arm = offer .before .before .before in
-    rw (
-      arm .i6 .given .1,
-      c .accept6 .ensures,
-      put .put-grant .ensures,
-      offer .grant-entry .ensures,
-      arm .before .before .held-at .ensures,
-    )
+    grant-done (ready (arm .before .before .before)) (arm .i6 .given .1) (arm .before .before .held-at .ensures) (offer .grant-entry .ensures) (put .put-grant .ensures)
+    (c .accept6 .ensures)
 
 -- receive, at its end
 same-length-11 : tie.Need-same-length-11
@@ -293,18 +278,11 @@ same-length-12 : tie.Need-same-length-12
 same-length-12 c = search needs
 
 returns-7 : tie.Need-returns-7
-unfolding doneAt effect valueOf registersAfter
 returns-7 c =
     let took = c .before .before .before .before .before in
     let arm = took .before .before .before .before in
-    rw (
-      arm .i7 .given .1,
-      c .accept7 .ensures,
-      took .take-grant .ensures .1 .0,
-      took .take-grant .ensures .1 .1,
-      ← took .take-grant .ensures .0,
-      own-put (ready (arm .before .before .before)),
-    )
+    let ends = took .take-grant .ensures in
+    receive-done (ready (arm .before .before .before)) (arm .i7 .given .1) (ends .0) (ends .1 .0) (ends .1 .1) (c .accept7 .ensures)
 
 -- transfer, at its end
 same-length-13 : tie.Need-same-length-13
@@ -314,20 +292,13 @@ same-length-14 : tie.Need-same-length-14
 same-length-14 c = search needs
 
 returns-8 : tie.Need-returns-8
-unfolding doneAt effect valueOf registersAfter
 returns-8 c =
     let left = c .before .before .before in
     let put = left .before .before .before .before in
     let offer = put .before in
     let arm = offer .before .before .before in
-    rw (
-      arm .i8 .given .1,
-      c .accept8 .ensures,
-      left .put-rights2 .ensures,
-      put .put-grant2 .ensures,
-      offer .grant-entry2 .ensures,
-      own-put (ready (arm .before .before .before)),
-    )
+    transfer-done (ready (arm .before .before .before)) (arm .i8 .given .1) (offer .grant-entry2 .ensures) (put .put-grant2 .ensures)
+    (left .put-rights2 .ensures) (c .accept8 .ensures)
 
 -- invalidate, at its end
 same-length-15 : tie.Need-same-length-15
@@ -337,11 +308,10 @@ same-length-16 : tie.Need-same-length-16
 same-length-16 c = search needs
 
 returns-9 : tie.Need-returns-9
-unfolding doneAt effect valueOf registersAfter
 returns-9 c =
     let put = c .before .before .before in
     let arm = put .before .before in
-    rw (arm .enum-told .given .1, c .accept9 .ensures, put .put-mark .ensures, arm .before .before .held-at .ensures)
+    invalidate-done (ready (arm .before .before .before)) (arm .enum-told .given .1) (arm .before .before .held-at .ensures) (put .put-mark .ensures) (c .accept9 .ensures)
 
 -- revalidate, at its end
 same-length-17 : tie.Need-same-length-17
@@ -351,22 +321,19 @@ same-length-18 : tie.Need-same-length-18
 same-length-18 c = search needs
 
 returns-10 : tie.Need-returns-10
-unfolding doneAt effect valueOf registersAfter
 returns-10 c =
     let put = c .before .before .before in
     let arm = put .before .before in
-    rw (arm .enum-told2 .given .1, c .accept10 .ensures, put .put-mark2 .ensures, arm .before .before .held-at .ensures)
+    revalidate-done (ready (arm .before .before .before)) (arm .enum-told2 .given .1) (arm .before .before .held-at .ensures) (put .put-mark2 .ensures) (c .accept10 .ensures)
 
 -- exclusive, at its end
 same-length-19 : tie.Need-same-length-19
 same-length-19 c = search needs
 
 returns-11 : tie.Need-returns-11
-unfolding doneAt effect valueOf registersAfter nobodyElse
 returns-11 c =
-    let asked = c .before .nobody-else in
     let arm = c .before .before .before in
-    rw (arm .enum-told3 .given .1, c .accept11 .ensures, one-if (asked .result), asked .ensures)
+    exclusive-done (ready (arm .before .before .before)) (arm .enum-told3 .given .1) (c .before .nobody-else .ensures) (c .accept11 .ensures)
 
 pub apply-spec : {M : Type 1} → statement M
 apply-spec =

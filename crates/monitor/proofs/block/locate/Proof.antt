@@ -1,8 +1,8 @@
 use Prim.Native.Nat.{ℕ}
 use native.Mathlib.Omega.{arith}
-use denote.Ref.{now}
 use borrow.Author.Needs.{needs}
-use Rattle.rules.specs.Numbers.{State, state, tables}
+use Rattle.rules.specs.Numbers.{State, state}
+use Rattle.rules.specs.Lent.{given}
 use Rattle.rules.specs.Instructions.{place}
 use Rattle.monitor.proofs.Readiness.{CellIn, cell-in, cells-rise, entry-in-rights}
 use Rattle.monitor.proofs.Searching.{FoundAt, found-at, nowhere-uncovered}
@@ -13,8 +13,7 @@ use Rattle.monitor.proofs.block.locate.Tie as tie
 abbrev st : tie.Start → State
 st c =
     state
-    (tables (c .args .m) (now (c .args .first)) (now (c .args .last)) (now (c .args .offset)) (now (c .args .marks))
-    (now (c .args .rights)) (now (c .args .grants)) (now (c .args .memory)))
+    (given (c .args .m) (c .args .first) (c .args .last) (c .args .offset) (c .args .marks) (c .args .rights) (c .args .grants) (c .args .memory))
     (c .args .registers)
 
 abbrev start : tie.After-shared-slice-known7 → tie.Start

@@ -2,8 +2,8 @@
 -- was looked up are put in, and both sides are one list of checks.
 use borrow.Author.Needs.{needs as trivial}
 use mathlib.Core.Path.{sym, _∙_}
-use denote.Ref.{now}
-use Rattle.rules.specs.Numbers.{State, tables, state}
+use Rattle.rules.specs.Numbers.{State, state}
+use Rattle.rules.specs.Lent.{given}
 use Rattle.rules.specs.Instructions.{valid, place, nobodyElse, needs}
 use Rattle.rules.specs.declared.Instruction.the-variants.{Fetch, Switch, Receive}
 use Rattle.monitor.proofs.Judging.{entry-once}
@@ -18,8 +18,7 @@ start c = c .before .before .before .before .before .before .before .before .bef
 abbrev st : tie.Start → State
 st c =
     state
-    (tables (c .args .m) (now (c .args .first)) (now (c .args .last)) (now (c .args .offset)) (now (c .args .marks))
-    (now (c .args .rights)) (now (c .args .grants)) (now (c .args .memory)))
+    (given (c .args .m) (c .args .first) (c .args .last) (c .args .offset) (c .args .marks) (c .args .rights) (c .args .grants) (c .args .memory))
     (c .args .registers)
 
 cast-d : tie.Need-cast-d
@@ -27,13 +26,13 @@ cast-d c = search trivial
 
 shared-slice-read-valid : tie.Need-shared-slice-read-valid
 shared-slice-read-valid c =
-    let s = start (c) in
+    let s = start c in
     cell-in (st s .lent) (s .pre .begun .sizes) _ (s .pre .cell .cell) .marked
 
 held-at-requires : tie.Need-held-at-requires
 held-at-requires c κs =
-    let s = start (c) in
-    entry-in-rights (st s .lent) (s .pre .begun .sizes) _ (s .pre .cell .cell) _ (s .pre .begun .current)
+    let s = start c in
+    entry-in-rights (st s .lent) (s .pre .begun .sizes) (s .args .c) (s .pre .cell .cell) (s .args .registers .current) (s .pre .begun .current)
 
 enum-told : tie.Need-enum-told
 enum-told c = search trivial
@@ -61,7 +60,7 @@ shared-slice-read-whole-word c =
 whole-word-requires : tie.Need-whole-word-requires
 whole-word-requires c κs =
     let s = start (c .before .before .before .before .before) in
-    cell-of (Fetch _) (c .before .before .i .given .1) (s .pre .cell) .to
+    cell-of {t = st s .lent} (Fetch _) (c .before .before .i .given .1) (s .pre .cell) .to
 
 judge-whole-requires : tie.Need-judge-whole-requires
 judge-whole-requires c κs = search trivial
@@ -88,13 +87,13 @@ shared-slice-read-whole-word-2 c =
 whole-word-requires-2 : tie.Need-whole-word-requires-2
 whole-word-requires-2 c κs =
     let s = start (c .before .before .before .before .before .before) in
-    cell-of (Switch _ _) (c .before .before .before .i2 .given .1) (s .pre .cell) .to
+    cell-of {t = st s .lent} (Switch _ _) (c .before .before .before .i2 .given .1) (s .pre .cell) .to
 
 entry-word-requires : tie.Need-entry-word-requires
 entry-word-requires c κs =
     let s = start (c .before .before .before .before .before .before .before) in
     let i = c .before .before .before .before .i2 .given .1 in
-    let v = cell-of (Switch _ _) i (s .pre .cell) in
+    let v = cell-of {t = st s .lent} (Switch _ _) i (s .pre .cell) in
     let q = cell-in (st s .lent) (s .pre .begun .sizes) _ (s .pre .cell .cell) in (
       (q .firsts, (q .offsets, v .from)),
       λ w. word-inside (st s .lent) _ _ (s .pre .begun .sound _ (v .cell)) v (sym (c .whole-word2 .ensures) ∙ w),

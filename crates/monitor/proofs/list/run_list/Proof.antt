@@ -1,11 +1,11 @@
 -- The loop's invariant: after `k` instructions the state is the definition's, and the answers stand in the two lists.
-use Prim.Native.Nat.{ℕ, _-_, _≤_}
-use mathlib.Core.Path.{_≡_, ap, _∙_}
+use Prim.Native.Nat.{_-_, _≤_}
+use mathlib.Core.Path.{_≡_}
 use native.Mathlib.Omega.{arith}
-use denote.Ref.{now}
 use Rattle.rules.specs.Numbers.{State, tables, state}
-use Rattle.monitor.specs.Runs.{afterFirst, numbersIn, valuesIn}
-use Rattle.monitor.proofs.Running.{Turn, turn-first, turn-next}
+use Rattle.rules.specs.Lent.{given}
+use Rattle.monitor.specs.Ready.{came}
+use Rattle.monitor.proofs.Running.{Turn, turn-first, turn-next, turns-ran}
 use borrow.Author.Needs.{needs}
 use Rattle.monitor.proofs.list.run_list.Statement.{statement}
 use Rattle.monitor.proofs.list.run_list.Tie as tie
@@ -26,9 +26,15 @@ start c = c .before .before .before .before .before .before .before .before .bef
 abbrev st : tie.Start Inv-loop μ-loop → State
 st c =
     state
-    (tables (c .args .m) (now (c .args .first)) (now (c .args .last)) (now (c .args .offset)) (now (c .args .marks))
-    (now (c .args .rights)) (now (c .args .grants)) (now (c .args .memory)))
+    (given (c .args .m) (c .args .first) (c .args .last) (c .args .offset) (c .args .marks) (c .args .rights) (c .args .grants) (c .args .memory))
     (c .args .registers)
+
+-- from where a turn's instruction has been performed: where the turn began, and the function's entry
+abbrev turn : tie.After-perform Inv-loop μ-loop → tie.In-loop Inv-loop μ-loop
+turn c = c .before .before .before .before .before .before .before .before .before
+
+abbrev entry : tie.After-perform Inv-loop μ-loop → tie.Start Inv-loop μ-loop
+entry c = start (turn c .before .before)
 
 loop-holds : tie.Need-loop-holds Inv-loop μ-loop
 loop-holds c = (search needs, turn-first _ _ _ _ (start c .pre .0))
@@ -36,14 +42,17 @@ loop-holds c = (search needs, turn-first _ _ _ _ (start c .pre .0))
 mul-at : tie.Need-mul-at Inv-loop μ-loop
 mul-at c = search needs
 
+add-perform : tie.Need-add-perform Inv-loop μ-loop
+add-perform c = search needs
+
 mul-perform : tie.Need-mul-perform Inv-loop μ-loop
 mul-perform c = search needs
 
 shared-slice-read-perform : tie.Need-shared-slice-read-perform Inv-loop μ-loop
 shared-slice-read-perform c = search needs
 
-add-perform : tie.Need-add-perform Inv-loop μ-loop
-add-perform c = search needs
+add-perform-2 : tie.Need-add-perform-2 Inv-loop μ-loop
+add-perform-2 c = search needs
 
 mul-perform-2 : tie.Need-mul-perform-2 Inv-loop μ-loop
 mul-perform-2 c = search needs
@@ -51,8 +60,8 @@ mul-perform-2 c = search needs
 shared-slice-read-perform-2 : tie.Need-shared-slice-read-perform-2 Inv-loop μ-loop
 shared-slice-read-perform-2 c = search needs
 
-add-perform-2 : tie.Need-add-perform-2 Inv-loop μ-loop
-add-perform-2 c = search needs
+add-perform-3 : tie.Need-add-perform-3 Inv-loop μ-loop
+add-perform-3 c = search needs
 
 mul-perform-3 : tie.Need-mul-perform-3 Inv-loop μ-loop
 mul-perform-3 c = search needs
@@ -60,8 +69,8 @@ mul-perform-3 c = search needs
 shared-slice-read-perform-3 : tie.Need-shared-slice-read-perform-3 Inv-loop μ-loop
 shared-slice-read-perform-3 c = search needs
 
-add-perform-3 : tie.Need-add-perform-3 Inv-loop μ-loop
-add-perform-3 c = search needs
+add-perform-4 : tie.Need-add-perform-4 Inv-loop μ-loop
+add-perform-4 c = search needs
 
 mul-perform-4 : tie.Need-mul-perform-4 Inv-loop μ-loop
 mul-perform-4 c = search needs
@@ -74,42 +83,36 @@ perform-requires c κs = c .before .before .before .before .before .before .befo
 
 mul-numbers : tie.Need-mul-numbers Inv-loop μ-loop
 mul-numbers c =
-    let l = c .before .before .before .before .before .before .before .before .before .before .before .before .before .before .before .before .before .before in
-    let s = start (l .before) in
-    omega (arith, c .before .before .before .before .before .before .before .before .before .before .before .before .before .before .before .before .before .loop-test .taken, s .pre .1, s .good)
+    let p = c .before .before .before .before .before .before .before .before in
+    omega (arith, turn p .loop-test .taken, entry p .pre .1, entry p .good)
 
 slice-write-numbers : tie.Need-slice-write-numbers Inv-loop μ-loop
 slice-write-numbers c =
-    let l = c .before .before .before .before .before .before .before .before .before .before .before .before .before .before .before .before .before .before in
-    let s = start (l .before) in
-    omega (arith, c .before .before .before .before .before .before .before .before .before .before .before .before .before .before .before .before .before .loop-test .taken, s .pre .1, s .good, l .loop .inv .1 .long)
+    let p = c .before .before .before .before .before .before .before .before in
+    omega (arith, turn p .loop-test .taken, entry p .pre .1, turn p .before .loop .inv .1 .long)
 
 mul-values : tie.Need-mul-values Inv-loop μ-loop
 mul-values c =
-    let l = c .before .before .before .before .before .before .before .before .before .before .before .before .before .before .before .before .before .before in
-    let s = start (l .before) in
-    omega (arith, c .before .before .before .before .before .before .before .before .before .before .before .before .before .before .before .before .before .loop-test .taken, s .pre .1, s .good)
+    let p = c .before .before .before .before .before .before .before .before in
+    omega (arith, turn p .loop-test .taken, entry p .pre .1, entry p .good)
 
 slice-write-values : tie.Need-slice-write-values Inv-loop μ-loop
 slice-write-values c =
-    let l = c .before .before .before .before .before .before .before .before .before .before .before .before .before .before .before .before .before .before in
-    let s = start (l .before) in
-    omega (arith, c .before .before .before .before .before .before .before .before .before .before .before .before .before .before .before .before .before .loop-test .taken, s .pre .1, s .good, l .loop .inv .1 .wide)
+    let p = c .before .before .before .before .before .before .before .before in
+    omega (arith, turn p .loop-test .taken, entry p .pre .1, turn p .before .loop .inv .1 .wide)
 
 add-k : tie.Need-add-k Inv-loop μ-loop
 add-k c =
-    let l = c .before .before .before .before .before .before .before .before .before .before .before .before .before .before .before .before .before .before .before in
-    let s = start (l .before) in
-    omega (arith, c .before .before .before .before .before .before .before .before .before .before .before .before .before .before .before .before .before .before .loop-test .taken, s .pre .1, s .good)
+    let p = c .before .before .before .before .before .before .before .before .before in
+    omega (arith, turn p .loop-test .taken, entry p .pre .1, entry p .good)
 
 loop-less : tie.Need-loop-less Inv-loop μ-loop
-loop-less c = omega (arith, c .before .before .before .before .before .before .before .before .before .before .before .before .before .before .before .before .before .before .loop-test .taken)
+loop-less c = omega (arith, turn (c .before .before .before .before .before .before .before .before .before) .loop-test .taken)
 
 loop-again : tie.Need-loop-again Inv-loop μ-loop
 loop-again c =
-    let performed = c .before .before .before .before .before .before .before .before .before in
-    let at = performed .before .before .before .before .before .before .before .before .before .before in
-    (omega (arith, performed .before .before .before .before .before .before .before .before .before .loop-test .taken), turn-next _ (at .loop .inv .1) (performed .perform .ensures))
+    let p = c .before .before .before .before .before .before .before .before .before in
+    (omega (arith, turn p .loop-test .taken), turn-next (came (p .perform .result) _) (turn p .before .loop .inv .1) (p .perform .ensures))
 
 same-length : tie.Need-same-length Inv-loop μ-loop
 same-length c = c .before .loop .inv .1 .shape .marks
@@ -133,13 +136,8 @@ returns : tie.Need-returns Inv-loop μ-loop
 returns c =
     let at = c .before .loop in
     let s = start (c .before .before) in
-    let e : at .k ≡ s .args .count = omega (arith, c .loop-test .left, at .inv .0) in (
-      at .inv .1 .at ∙ ap (afterFirst (st s) (s .args .instructions .now)) e,
-      (
-        at .inv .1 .numbered ∙ ap (λ (j : ℕ). numbersIn (st s) (s .args .instructions .now) j (s .args .numbers .now)) e,
-        at .inv .1 .valued ∙ ap (λ (j : ℕ). valuesIn (st s) (s .args .instructions .now) j (s .args .values .now)) e,
-      ),
-    )
+    let e : at .k ≡ s .args .count = omega (arith, c .loop-test .left, at .inv .0) in
+    turns-ran (at .inv .1) e
 
 pub run-list-spec : {M : Type 1} → statement M
 run-list-spec =
@@ -149,15 +147,16 @@ run-list-spec =
     μ-loop
     loop-holds
     mul-at
+    add-perform
     mul-perform
     shared-slice-read-perform
-    add-perform
+    add-perform-2
     mul-perform-2
     shared-slice-read-perform-2
-    add-perform-2
+    add-perform-3
     mul-perform-3
     shared-slice-read-perform-3
-    add-perform-3
+    add-perform-4
     mul-perform-4
     shared-slice-read-perform-4
     perform-requires

@@ -2,8 +2,8 @@
 use borrow.Author.Needs.{needs}
 use mathlib.Core.Path.{sym, _∙_}
 use native.Mathlib.Omega.{arith}
-use denote.Ref.{now}
-use Rattle.rules.specs.Numbers.{State, tables, state}
+use Rattle.rules.specs.Numbers.{State, state}
+use Rattle.rules.specs.Lent.{given}
 use Rattle.rules.proofs.Kept.{first-holds}
 use Rattle.monitor.proofs.Executing.{kind-in-range, executed-kind, executed-refused}
 use Rattle.monitor.proofs.step.perform.Statement.{statement}
@@ -16,8 +16,7 @@ start c = c .before .before .before .before .before .before .before .before
 abbrev st : tie.Start → State
 st c =
     state
-    (tables (c .args .m) (now (c .args .first)) (now (c .args .last)) (now (c .args .offset)) (now (c .args .marks))
-    (now (c .args .rights)) (now (c .args .grants)) (now (c .args .memory)))
+    (given (c .args .m) (c .args .first) (c .args .last) (c .args .offset) (c .args .marks) (c .args .rights) (c .args .grants) (c .args .memory))
     (c .args .registers)
 
 cast-decode : tie.Need-cast-decode
@@ -42,7 +41,7 @@ step-requires c κs =
     let decoded = c .before .before .before .before .before .before .before in
     let s = start decoded in (
       s .pre,
-      kind-in-range (st s) _ _ _ _ _ (decoded .decode .ensures) _ (c .before .before .before .before .before .decoded2 .given .1),
+      kind-in-range (st s) _ _ _ _ _ _ (decoded .decode .ensures) _ (c .before .before .before .before .before .decoded2 .given .1),
     )
 
 returns : tie.Need-returns
@@ -50,7 +49,7 @@ returns c =
     let decoded = c .before .before .before .before in
     let s = start decoded in
     rw (c .refuse .ensures)
-    (executed-refused (st s) _ _ _ _ _ (decoded .decode .ensures) (first-holds (st s) (s .pre)) _ (c .before .before .decoded .given .1))
+    (executed-refused (st s) _ _ _ _ _ _ (decoded .decode .ensures) (first-holds (st s) (s .pre)) _ (c .before .before .decoded .given .1))
 
 same-length : tie.Need-same-length
 same-length c = search needs
@@ -71,7 +70,7 @@ returns-2 c =
     let decoded = known .before .before in
     let s = start decoded in
     stepped .step .ensures
-    ∙ sym (executed-kind (st s) _ _ _ _ _ (decoded .decode .ensures) (first-holds (st s) (s .pre)) _ (known .decoded2 .given .1))
+    ∙ sym (executed-kind (st s) _ _ _ _ _ _ (decoded .decode .ensures) (first-holds (st s) (s .pre)) _ (known .decoded2 .given .1))
 
 pub perform-spec : {M : Type 1} → statement M
 perform-spec =

@@ -1,8 +1,8 @@
 -- The cell is found, the instruction judged on it and applied: each return is one law of `Stepping`.
 use borrow.Author.Needs.{needs}
 use mathlib.Core.Path.{_∙_}
-use denote.Ref.{now}
-use Rattle.rules.specs.Numbers.{State, tables, state}
+use Rattle.rules.specs.Numbers.{State, state}
+use Rattle.rules.specs.Lent.{given}
 use Rattle.rules.specs.Instructions.{addressOf}
 use Rattle.monitor.proofs.Readiness.{cells-rise}
 use Rattle.monitor.proofs.Searching.{FoundAt}
@@ -16,8 +16,7 @@ start c = c .before .before .before .before .before .before .before
 abbrev st : tie.Start → State
 st c =
     state
-    (tables (c .args .m) (now (c .args .first)) (now (c .args .last)) (now (c .args .offset)) (now (c .args .marks))
-    (now (c .args .rights)) (now (c .args .grants)) (now (c .args .memory)))
+    (given (c .args .m) (c .args .first) (c .args .last) (c .args .offset) (c .args .marks) (c .args .rights) (c .args .grants) (c .args .memory))
     (c .args .registers)
 
 -- the entry, from where the cell is found, and from where it is judged

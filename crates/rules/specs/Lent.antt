@@ -1,0 +1,22 @@
+-- How a contract speaks of what a call is lent. A lent list is a reference, whose list `now` reads; where a call returns,
+-- its name stands for two references, as it was passed (`entry`) and as it comes back (`exit`).
+use Prim.Native.Nat.{ℕ}
+use mathlib.Core.List.{List}
+use denote.Ref.{RefT, now}
+use denote.Triple.Both.{Both}
+use Rattle.rules.specs.Numbers.{Tables, tables}
+
+abbrev pub Slice : Type 0
+Slice = RefT (List ℕ)
+
+-- the tables where a call begins
+abbrev pub given : ℕ → (first last offset marks rights grants memory : Slice) → Tables
+given m f l o k r g b = tables m (now f) (now l) (now o) (now k) (now r) (now g) (now b)
+
+-- the same, said where it returns
+abbrev pub before : ℕ → (first last offset marks rights grants memory : Both Slice Slice) → Tables
+before m f l o k r g b = given m (f .entry) (l .entry) (o .entry) (k .entry) (r .entry) (g .entry) (b .entry)
+
+-- the tables as they come back
+abbrev pub after : ℕ → (first last offset marks rights grants memory : Both Slice Slice) → Tables
+after m f l o k r g b = given m (f .exit) (l .exit) (o .exit) (k .exit) (r .exit) (g .exit) (b .exit)
