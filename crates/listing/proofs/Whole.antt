@@ -15,11 +15,11 @@ use Rattle.text.proofs.Writing.{put-then}
 use Rattle.text.proofs.Room.{put-long}
 use Rattle.rules.specs.Numbers.{Tables, State, state, tables}
 use Rattle.rules.specs.Refusals.{Outcome}
-use Rattle.monitor.specs.Runs.{roomFor, roomIn, afterFirst, answersIn, Ran, ran, runAll}
+use Rattle.monitor.specs.Runs.{roomFor, roomIn, afterFirst, answerAt, answersIn, Ran, ran, runAll}
 use Rattle.listing.specs.Words.{badWord, cellsWord}
 use Rattle.listing.specs.Lines.{field, headRow, sizeRow, rightAt, grantAt, byteAt, coreRow, registersIn}
 use Rattle.listing.specs.Listing.{run, zeros, Cells, entriesAt, Dos, dosAt, cellsAt, fromDos, fromCore, fromRights, fromSize, fromHead, listingIn}
-use Rattle.listing.specs.Output.{line1, linesOf, answerTo, answerLine, linesAfter, bodyOf, outputOf}
+use Rattle.listing.specs.Output.{line1, linesOf, answerLine, linesAfter, bodyOf, outputOf}
 use Rattle.listing.specs.Reading.{FilledAs, answerOf, outputRoom, writtenIn}
 use Rattle.listing.specs.declared.lines.Passed.{Passed}
 
@@ -39,17 +39,17 @@ module _ (s : State) (l out : List ℕ) where
   answers-long : (part : Outcome → ℕ) (k : ℕ) → length (answersIn part s l k out) ≡ length out
   unfolding answersIn
   answers-long part zero = refl
-  answers-long part (suc k) = length-set (answersIn part s l k out) k (part (answerTo s l k)) ∙ answers-long part k
+  answers-long part (suc k) = length-set (answersIn part s l k out) k (part (answerAt s l k)) ∙ answers-long part k
 
-  answers-at : (part : Outcome → ℕ) (k i : ℕ) → i < k → k ≤ length out → getD (answersIn part s l k out) i 0 ≡ part (answerTo s l i)
+  answers-at : (part : Outcome → ℕ) (k i : ℕ) → i < k → k ≤ length out → getD (answersIn part s l k out) i 0 ≡ part (answerAt s l i)
   unfolding answersIn
   answers-at part zero i h f = absurd (omega arith)
   answers-at part (suc k) i h f =
       by-test (eqb i k)
       (λ e. let q : i ≡ k = eqb-true i k e in
-      rw q (getD-set-same (answersIn part s l k out) k (part (answerTo s l k)) 0 (omega (arith, answers-long part k))))
+      rw q (getD-set-same (answersIn part s l k out) k (part (answerAt s l k)) 0 (omega (arith, answers-long part k))))
       (λ e. let q : i ≡ k → ⊥ = eqb-false i k e in
-      getD-set-other (answersIn part s l k out) k i (part (answerTo s l k)) 0 q ∙ answers-at part k i (omega arith) (omega arith))
+      getD-set-other (answersIn part s l k out) k i (part (answerAt s l k)) 0 q ∙ answers-at part k i (omega arith) (omega arith))
 
 -- the same lines, where each is the same
 lines-same : (f g : ℕ → List ℕ) (i k : ℕ) → ((j : ℕ) → i ≤ j → j < i + k → f j ≡ g j) → linesOf f i k ≡ linesOf g i k

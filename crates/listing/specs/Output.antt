@@ -6,10 +6,8 @@ use lib.ListN.{length, getD}
 use lib.Dec.{eqb}
 use Rattle.text.specs.Text.{rowText}
 use Rattle.rules.specs.Numbers.{State, targetIn, rightsIn}
-use Rattle.rules.specs.Refusals.{Outcome}
-use Rattle.rules.specs.Calls.{performed}
 use Rattle.rules.specs.declared.Registers.{Registers}
-use Rattle.monitor.specs.Runs.{instructionAt, afterFirst}
+use Rattle.monitor.specs.Runs.{afterFirst, answerAt}
 use Rattle.listing.specs.Words.{cellsWord, answerWord, coreWord, rightWord, grantWord, badWord}
 use Rattle.listing.specs.Listing.{Text, run, wrong, listingIn}
 
@@ -28,13 +26,9 @@ unfoldable pub linesOf : (line : ℕ → List ℕ) (i k : ℕ) → List ℕ
 linesOf line i zero = []
 linesOf line i (suc k) = line i ++ linesOf line (i + 1) k
 
--- what the instruction numbered i from 0 is answered, in its turn
-abbrev pub answerTo : State → (numbers : List ℕ) (i : ℕ) → Outcome
-answerTo start l i = performed (afterFirst start l i) (instructionAt l i)
-
--- its position from 1, number, value
+-- of the instruction numbered i from 0: its position from 1, number, value
 unfoldable pub answerLine : State → (numbers : List ℕ) (i : ℕ) → List ℕ
-answerLine start l i = line3 answerWord (i + 1) (answerTo start l i .number) (answerTo start l i .value)
+answerLine start l i = line3 answerWord (i + 1) (answerAt start l i .number) (answerAt start l i .value)
 
 unfoldable pub coreLine : Registers → List ℕ
 coreLine r = line3 coreWord (r .current) (r .caller) (r .place)

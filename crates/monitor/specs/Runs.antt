@@ -23,11 +23,14 @@ unfoldable pub afterFirst : State → List ℕ → (k : ℕ) → State
 afterFirst s l zero = s
 afterFirst s l (suc k) = performed (afterFirst s l k) (instructionAt l k) .after
 
+-- what the instruction numbered k from 0 is answered, in its turn
+abbrev pub answerAt : State → List ℕ → (k : ℕ) → Outcome
+answerAt s l k = performed (afterFirst s l k) (instructionAt l k)
+
 -- a list whose first k entries are one part of the first k answers
 unfoldable pub answersIn : (part : Outcome → ℕ) → State → List ℕ → (k : ℕ) → List ℕ → List ℕ
 answersIn part s l zero out = out
-answersIn part s l (suc k) out =
-    set (answersIn part s l k out) k (part (performed (afterFirst s l k) (instructionAt l k)))
+answersIn part s l (suc k) out = set (answersIn part s l k out) k (part (answerAt s l k))
 
 -- what a list of instructions leaves: the state, and the lists of the answers' numbers and values
 pub record Ran : Type 0 where

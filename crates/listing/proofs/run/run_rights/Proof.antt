@@ -1,5 +1,5 @@
 use Rattle.listing.specs.Listing.{Cells}
-use Prim.Native.Nat.{ℕ, _*_, _≤_}
+use Prim.Native.Nat.{ℕ, _+_, _*_, _≤_}
 use mathlib.Core.Path.{_≡_, sym, ap, _∙_}
 use native.Mathlib.Omega.{arith}
 use lib.ListN.{length, length-replicate}
@@ -12,6 +12,13 @@ use Rattle.listing.proofs.run.run_rights.Tie as tie
 -- the start, from where the right lines were read
 abbrev start : tie.After-fill-bytes → tie.Start
 start c = c .before .before .before .before .before .before .before .before .before .before .before
+
+-- where the right lines were read, from where the grant lines were, and these from where the byte lines were
+abbrev rights : tie.After-fill-grants → tie.After-fill-bytes
+rights c = c .before .before .before .before
+
+abbrev grants : tie.After-fill-bytes2 → tie.After-fill-grants
+grants c = c .before .before .before .before
 
 -- as many entries as there are cells and divisions
 entries : (c : tie.Start) → length (c .args .first .now) * c .args .m ≤ 8192
@@ -58,30 +65,33 @@ add-line-2 c =
 add-line-3 : tie.Need-add-line-3
 add-line-3 c =
     let g = c .before .before .before .before .before .before .before .before in
-    let r = g .before .before .before .before in
+    let r = rights g in
     omega (arith, start r .pre .0 .3, start r .pre .0 .4, r .fill-bytes .ensures .1, g .fill-grants .ensures .1)
 
-add-line-4 : tie.Need-add-line-4
-add-line-4 c =
-    let b = c .before .before .before .before .before in
-    let g = b .before .before .before .before in
-    let r = g .before .before .before .before in
+-- so many lines stand before the core at most
+few-lines : (b : tie.After-fill-bytes2)
+    → 2 + length (start (rights (grants b)) .args .first .now) + rights (grants b) .fill-bytes .result .count
+    + grants b .fill-grants .result .count + b .fill-bytes2 .result .count
+    ≤ 262144
+few-lines b =
+    let r = rights (grants b) in
     omega
-    (arith, start r .pre .0 .3, start r .pre .0 .4, r .fill-bytes .ensures .1, g .fill-grants .ensures .1, b .fill-bytes2 .ensures .1)
+    (arith, start r .pre .0 .3, start r .pre .0 .4, r .fill-bytes .ensures .1, grants b .fill-grants .ensures .1, b .fill-bytes2 .ensures .1)
+
+add-line-4 : tie.Need-add-line-4
+add-line-4 c = omega (arith, few-lines (c .before .before .before .before .before))
 
 run-core-requires : tie.Need-run-core-requires
 run-core-requires c κs =
     let b = c .before .before .before .before .before .before .before .before .before .before in
-    let g = b .before .before .before .before in
-    let r = g .before .before .before .before in
+    let r = rights (grants b) in
     let a = start r in (
       a .pre .0 .0,
       a .pre .0 .1,
       omega (arith, entries a, rights-long a, r .fill-bytes .kept .1 .1 .1 .0),
-      omega (arith, entries a, grants-long a, g .fill-grants .kept .1 .1 .1 .1 .0),
+      omega (arith, entries a, grants-long a, grants b .fill-grants .kept .1 .1 .1 .1 .0),
       a .pre .0 .4,
-      omega
-          (arith, a .pre .0 .3, a .pre .0 .4, r .fill-bytes .ensures .1, g .fill-grants .ensures .1, b .fill-bytes2 .ensures .1),
+      few-lines b,
       a .pre .0 .5,
     )
 
@@ -91,7 +101,7 @@ same-length c = search needs
 same-length-2 : tie.Need-same-length-2
 same-length-2 c =
     let ran = c .before .before .before .before .before .before .before .before .before .before in
-    ran .run-core .kept .1 .1 .1 .1 .1 .1 .1 .1 .0 ∙ ran .before .before .before .before .before .before .before .before .before .before .before .before .before .before .before .before .before .before .before .fill-bytes .kept .1 .1 .1 .0
+    ran .run-core .kept .1 .1 .1 .1 .1 .1 .1 .1 .0 ∙ rights (grants (ran .before .before .before .before .before .before .before .before .before .before .before)) .fill-bytes .kept .1 .1 .1 .0
 
 same-length-3 : tie.Need-same-length-3
 same-length-3 c = search needs
@@ -107,15 +117,15 @@ returns c =
     let ran = c .before .before .before .before .before .before .before .before .before .before in
     let filled = ran .before .before .before .before .before .before .before .before .before .before .before in
     let b = filled .fill-bytes2 in
-    let g = filled .before .before .before .before .fill-grants in
-    let r = filled .before .before .before .before .before .before .before .before .fill-bytes in
-    let start = start (filled .before .before .before .before .before .before .before .before) in
-    let a = start .args in
+    let g = grants filled .fill-grants in
+    let r = rights (grants filled) .fill-bytes in
+    let begun = start (rights (grants filled)) in
+    let a = begun .args in
     let cells : Cells = record { next = a .next; first = a .first .now; last = a .last .now; offset = a .offset .now; marks = a .marks .now } in
     let same =
     rights-read (a .s .now) (a .m) (a .l) cells (r .result) (g .result) (b .result) (a .rights .now) (r .last .1 .1 .1 .0)
-    (a .grants .now) (g .last .1 .1 .1 .1 .0) (a .memory .now) (b .last .1 .1 .1 .0) (start .pre .1 .0) (start .pre .1 .1)
-    (start .pre .1 .2) (r .ensures .0) (g .ensures .0) (b .ensures .0) in
+    (a .grants .now) (g .last .1 .1 .1 .1 .0) (a .memory .now) (b .last .1 .1 .1 .0) (begun .pre .1 .0) (begun .pre .1 .1)
+    (begun .pre .1 .2) (r .ensures .0) (g .ensures .0) (b .ensures .0) in
     (rw (← same) (ran .run-core .ensures .0), ran .run-core .ensures .1)
 
 pub run-rights-spec : {M : Type 1} → statement M

@@ -4,7 +4,8 @@ use borrow.Author.Needs.{needs}
 use Rattle.rules.specs.Numbers.{State, state}
 use Rattle.rules.specs.Lent.{given}
 use Rattle.monitor.specs.Ready.{Ready}
-use Rattle.monitor.proofs.Applying.{cell-there, row-there, own-rights, own-grant, place-there, byte-there, word-there, grant-fits, transfer-fits, source-grant, load-done, store-done, fetch-done, switch-done, protect-done, grant-done, receive-done, transfer-done, invalidate-done, revalidate-done, exclusive-done}
+use Rattle.monitor.proofs.Readiness.{cell-there, row-there, own-rights, own-grant, place-there, byte-there, source-grant}
+use Rattle.monitor.proofs.Applying.{fetch-there, grant-fits, transfer-fits, load-done, store-done, fetch-done, switch-done, protect-done, grant-done, receive-done, transfer-done, invalidate-done, revalidate-done, exclusive-done}
 use Rattle.monitor.proofs.apply.apply.Statement.{statement}
 use Rattle.monitor.proofs.apply.apply.Tie as tie
 
@@ -74,7 +75,7 @@ word-in-requires : tie.Need-word-in-requires
 word-in-requires c κs =
     let arm = c .before .before .before in
     let tested = arm .before .before .before in
-    rw (c .place-of3 .ensures) (word-there (ready tested) (arm .i3 .given .1) (start tested .pre .1))
+    rw (c .place-of3 .ensures) (fetch-there (ready tested) (arm .i3 .given .1) (start tested .pre .1))
 
 accept-requires-3 : tie.Need-accept-requires-3
 accept-requires-3 c κs = search needs
