@@ -10,7 +10,7 @@ use lib.Dec.{eqb}
 use borrow.Author.Tests.{eqb-true}
 use denote.Ref.{now}
 use Rattle.rules.specs.Numbers.{Tables, State, state}
-use Rattle.rules.specs.Lent.{Slice, given}
+use Rattle.rules.specs.Lent.{Slice, Passed, given}
 use Rattle.rules.specs.Calls.{instruction, blockWrite, readView, done, performed}
 use Rattle.rules.specs.declared.Registers.{Registers}
 use Rattle.rules.specs.declared.Answer.{Answer}
@@ -21,7 +21,6 @@ use Rattle.monitor.specs.Runs.{instructionAt, roomIn, Ran}
 use Rattle.monitor.specs.declared.Reply.{Reply}
 use Rattle.monitor.specs.declared.ViewPlace.{ViewPlace}
 use Rattle.monitor.proofs.Locating.{viewed-part}
-use Rattle.monitor.proofs.Unique.{Passed}
 use Rattle.monitor.proofs.execute.Reads as execute-reads
 use Rattle.monitor.proofs.execute_all.Reads as execute-all-reads
 use Rattle.monitor.proofs.write_block.Reads as write-block-reads

@@ -5,7 +5,7 @@ use mathlib.Core.Path.{_≡_, ap}
 use mathlib.Core.List.{List}
 use denote.Ref.{now}
 use Rattle.rules.specs.Numbers.{Tables}
-use Rattle.rules.specs.Lent.{Slice, given}
+use Rattle.rules.specs.Lent.{Slice, Passed, lentOf}
 use Rattle.rules.specs.declared.Registers.{Registers}
 use Rattle.rules.proofs.Laws.{one-outcome}
 use Rattle.monitor.specs.Ready.{came}
@@ -19,14 +19,9 @@ use Rattle.monitor.proofs.view.Reads as view-reads
 
 -- ---- the parameters of a call: M, the seven lists, and the rest
 
-abbrev pub Passed : Type 0 → Type 0
-Passed Rest = ℕ × (Slice × (Slice × (Slice × (Slice × (Slice × (Slice × (Slice × Rest)))))))
-
 -- the lists at exit, with the M that was passed
 abbrev pub lists : {Rest End : Type 0} → Passed Rest → Passed End → Tables
-lists a s =
-    given (a .0) (s .1 .0) (s .1 .1 .0) (s .1 .1 .1 .0) (s .1 .1 .1 .1 .0) (s .1 .1 .1 .1 .1 .0) (s .1 .1 .1 .1 .1 .1 .0)
-    (s .1 .1 .1 .1 .1 .1 .1 .0)
+lists a s = lentOf (a .0, s .1)
 
 -- of `execute_all`, whose rest is the registers, the instructions and the lists of answers: both of these at exit
 abbrev pub answers : Passed (Registers × (Slice × (Slice × (Slice × Unit {0})))) → List ℕ × List ℕ

@@ -20,3 +20,15 @@ before m f l o k r g b = given m (f .entry) (l .entry) (o .entry) (k .entry) (r 
 -- the tables as they come back
 abbrev pub after : ℕ → (first last offset marks rights grants memory : Both Slice Slice) → Tables
 after m f l o k r g b = given m (f .exit) (l .exit) (o .exit) (k .exit) (r .exit) (g .exit) (b .exit)
+
+-- ---- the arguments of a call as one tuple, as the toolchain hands them to a proof
+
+-- M, the lists in the order in which every call takes them, and the rest
+abbrev pub Passed : Type 0 → Type 0
+Passed Rest = ℕ × (Slice × (Slice × (Slice × (Slice × (Slice × (Slice × (Slice × Rest)))))))
+
+-- the tables among them
+abbrev pub lentOf : {Rest : Type 0} → Passed Rest → Tables
+lentOf d =
+    given (d .0) (d .1 .0) (d .1 .1 .0) (d .1 .1 .1 .0) (d .1 .1 .1 .1 .0) (d .1 .1 .1 .1 .1 .0) (d .1 .1 .1 .1 .1 .1 .0)
+    (d .1 .1 .1 .1 .1 .1 .1 .0)
