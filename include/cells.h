@@ -1,4 +1,4 @@
-/* The calls of the rights monitor, as the static library libexports.a defines them.
+/* The calls of the rights monitor, as the static library libcells.a defines them.
  *
  * Every call takes M, the lists first, last and offset, the marks, the rights, the grants, the memory and the registers.
  * A list is a pointer and a number of entries; nothing is asked of the lengths, and any values may be passed: the call

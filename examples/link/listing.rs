@@ -14,7 +14,7 @@ struct Reply {
     registers: Registers,
 }
 
-#[link(name = "exports", kind = "static")]
+#[link(name = "cells", kind = "static")]
 extern "C" {
     fn cells_execute(
         m: usize, first: *const u32, firsts: usize, last: *const u32, lasts: usize, offset: *const u32, offsets: usize,

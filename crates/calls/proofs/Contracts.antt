@@ -16,10 +16,10 @@ use Rattle.rules.specs.declared.Registers.{Registers}
 use Rattle.rules.specs.declared.Answer.{Answer}
 use Rattle.rules.proofs.Below.{by-test}
 use Rattle.rules.proofs.Laws.{by-outcome, accepted-done}
-use Rattle.monitor.specs.Ready.{came, answerIn, viewPlaceIn}
+use Rattle.monitor.specs.Answers.{came, answerIn, viewPlaceIn}
 use Rattle.monitor.specs.Runs.{instructionAt, roomIn, Ran}
-use Rattle.monitor.specs.declared.Reply.{Reply}
-use Rattle.monitor.specs.declared.ViewPlace.{ViewPlace}
+use Rattle.monitor.specs.declared.reply.Reply.{Reply}
+use Rattle.monitor.specs.declared.reply.ViewPlace.{ViewPlace}
 use Rattle.monitor.proofs.Locating.{viewed-part}
 use Rattle.monitor.proofs.execute.Reads as execute-reads
 use Rattle.monitor.proofs.execute_all.Reads as execute-all-reads
@@ -77,7 +77,7 @@ module _ (m : ℕ) (first last offset : Slice) where
         → view-answer-reads.Post λs (passed marks rights grants memory registers (x, (n, tt))) a (passed marks rights grants memory registers (x, (n, tt)))
         → record { number = a .number; value = a .value; part = now part; after = start } ≡ performed start (readView x n)
     view-performed κs λs x n part a e f =
-        λ i. record { number = f i .number; value = f i .value; part = e i; after = sym (view-kept start x n) i }
+        λ i. record { number = f i .number; value = f i .value; part = e i .list; after = sym (view-kept start x n) i }
 
     -- or one, which tells the place of the part in the memory
     pub view-place-performed : (κs : _) (x n : ℕ) (v : ViewPlace)
@@ -87,25 +87,3 @@ module _ (m : ℕ) (first last offset : Slice) where
     view-place-performed κs x n v e =
         let a = place-answer start x n in
         rw e (λ i. record { number = a i .number; value = a i .value; part = viewed-part start x n i; after = sym (view-kept start x n) i })
-
-    -- `execute_all`, where it has met its contract
-    module _ (κs : _) (instructions numbers values marks′ rights′ grants′ memory′ numbers′ values′ : Slice) (r : Registers)
-        (met : execute-all-reads.Post κs (passed marks rights grants memory registers (instructions, (numbers, (values, tt)))) r
-        (passed marks′ rights′ grants′ memory′ registers (instructions, (numbers′, (values′, tt))))) where
-      -- so many instructions it runs
-      abbrev pub count : ℕ
-      count = roomIn (now instructions) (now numbers) (now values)
-
-      -- a division that holds a right at exit has held it without a break since entry, or last gained it by an accepted receive,
-      -- among these instructions, of a grant made out to it, whose maker held the right when making it, and so back to entry
-      pub execute-all-history : (c d : ℕ) (q : Right) → holdsIn (lent marks′ rights′ grants′ memory′) c d q ≡ true
-          → Held (shown (instructionAt (now instructions)) start) c q count d
-      execute-all-history c d q h =
-          list-history start (now instructions) count c d q (subst (λ (u : State). holdsIn (u .lent) c d q ≡ true) (ap (λ (u : Ran). u .after) met) h)
-
-      -- a byte that differs between entry and exit was last changed by one of these instructions, an accepted store from a
-      -- division then holding write on the valid cell covering it
-      pub execute-all-bytes : (p : ℕ) → getD (now memory′) p 0 ≢ getD (now memory) p 0 → LastWritten (instructionAt (now instructions)) start 0 count p
-      execute-all-bytes p ne =
-          byte-history (instructionAt (now instructions)) start count 0 p (omega arith)
-          (λ e. ne (ap (λ (u : State). getD (u .lent .memory) p 0) (ap (λ (u : Ran). u .after) met ∙ list-run start (now instructions) count) ∙ e))

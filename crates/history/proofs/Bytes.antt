@@ -13,17 +13,14 @@ use lib.Dec.{leb, ltb, eqb}
 use borrow.Author.Tests.{leb-true, ltb-true, ltb-false, eqb-true, eqb-false, le-leb, lt-ltb}
 use Rattle.rules.specs.Numbers.{Tables, State, N, L, write, partOf, held, lastOf, markOf}
 use Rattle.rules.specs.Refusals.{firstChecks}
-use Rattle.rules.specs.Instructions.{addressOf, cellAt, place, valid, needs, effect}
+use Rattle.rules.specs.Instructions.{Formed, wellFormed, illFormed, addressOf, cellAt, place, valid, needs, effect}
 use Rattle.rules.specs.Blocks.{withinCell, blockNeeds, blockWritten}
-use Rattle.rules.specs.Calls.{Action, instruction, blockWrite, readView, decodedIn, doneAt, instructionChecks, instructionDone, blockChecks, checks, done, performed}
-use Rattle.rules.specs.declared.Placed.{Placed}
-use Rattle.rules.specs.declared.Decoded.{Decoded}
-use Rattle.rules.specs.declared.Decoded.the-variants.{Kind, Refused}
+use Rattle.rules.specs.Calls.{Action, instruction, blockWrite, readView, formedIn, doneAt, instructionChecks, instructionDone, blockChecks, checks, done, performed}
 use Rattle.rules.specs.declared.Instruction.{Instruction}
 use Rattle.rules.specs.declared.Instruction.the-variants.{Load, Store, Fetch, Switch, Protect, Grant, Receive, Transfer, Invalidate, Revalidate, Exclusive}
 use Rattle.rules.proofs.Below.{and-left, and-right, and-both, by-test, clash, below-suc}
 use Rattle.rules.proofs.Checks.{AllHold}
-use Rattle.rules.proofs.Decoding.{Sensible, decoded-sensible}
+use Rattle.rules.proofs.Decoding.{Sensible, formed-sensible}
 use Rattle.rules.proofs.Kept.{Begun, begun, Covering, covering, block-inside}
 use Rattle.rules.proofs.Needed.{store-held, block-held}
 use Rattle.rules.proofs.Laws.{refusal-same, accepted-exactly, accepted-done}
@@ -87,48 +84,47 @@ place-covered t c x p n v h l w =
     record { cell = v .cell; from = omega (arith, v .from); to = omega (arith, v .from) }
 
 -- a store
-store-wrote : (s : State) (number x y z : ℕ) (q : Placed) (at v p : ℕ) → decodedIn s number x y z ≡ Kind q → q .instruction ≡ Store at v
+store-wrote : (s : State) (number x y z : ℕ) (at v p : ℕ) → formedIn s number x y z ≡ wellFormed (Store at v)
     → Accepted s (Store at v) → getD (set (s .lent .memory) (place (s .lent) (cellAt (s .lent) at) at) v) p 0 ≢ getD (s .lent .memory) p 0
     → Wrote s (instruction number x y z) p
 unfolding needs
-store-wrote s number x y z q at v p e f a n =
+store-wrote s number x y z at v p e a n =
     let t = s .lent in
     let c = cellAt t at in
     let here : p ≡ place t c at
     = by-test (eqb p (place t c at)) (λ b. eqb-true _ _ b) (λ b. absurd (n (getD-set-other (t .memory) (place t c at) p v 0 (eqb-false _ _ b)))) in
     record {
       cell = c;
-      writes = by-store q at v e f here;
+      writes = by-store at v e here;
       covers = place-covered t c at p 1 (a .covers) (omega arith) (omega arith) (omega (arith, a .covers .to));
       marked = a .needed .0;
       right = holding s c (a .begun) (a .cell) (store-held t (s .registers .current) c at v (a .needed));
     }
 
 -- of the instructions only a store
-kind-wrote : (s : State) (number x y z : ℕ) (q : Placed) (i : Instruction) (p : ℕ) → decodedIn s number x y z ≡ Kind q → q .instruction ≡ i
+kind-wrote : (s : State) (number x y z : ℕ) (i : Instruction) (p : ℕ) → formedIn s number x y z ≡ wellFormed i
     → Accepted s i
     → getD (effect (s .lent) (s .registers .current) (cellAt (s .lent) (addressOf i)) i .memory) p 0 ≢ getD (s .lent .memory) p 0
     → Wrote s (instruction number x y z) p
 unfolding effect
-kind-wrote s number x y z q (Load u) p e f a n = absurd (n refl)
-kind-wrote s number x y z q (Store u v) p e f a n = store-wrote s number x y z q u v p e f a n
-kind-wrote s number x y z q (Fetch u) p e f a n = absurd (n refl)
-kind-wrote s number x y z q (Switch u v) p e f a n = absurd (n refl)
-kind-wrote s number x y z q (Protect u v) p e f a n = absurd (n refl)
-kind-wrote s number x y z q (Grant u v w) p e f a n = absurd (n refl)
-kind-wrote s number x y z q (Receive u v) p e f a n = absurd (n refl)
-kind-wrote s number x y z q (Transfer u v w) p e f a n = absurd (n refl)
-kind-wrote s number x y z q (Invalidate u) p e f a n = absurd (n refl)
-kind-wrote s number x y z q (Revalidate u) p e f a n = absurd (n refl)
-kind-wrote s number x y z q (Exclusive u) p e f a n = absurd (n refl)
+kind-wrote s number x y z (Load u) p e a n = absurd (n refl)
+kind-wrote s number x y z (Store u v) p e a n = store-wrote s number x y z u v p e a n
+kind-wrote s number x y z (Fetch u) p e a n = absurd (n refl)
+kind-wrote s number x y z (Switch u v) p e a n = absurd (n refl)
+kind-wrote s number x y z (Protect u v) p e a n = absurd (n refl)
+kind-wrote s number x y z (Grant u v w) p e a n = absurd (n refl)
+kind-wrote s number x y z (Receive u v) p e a n = absurd (n refl)
+kind-wrote s number x y z (Transfer u v w) p e a n = absurd (n refl)
+kind-wrote s number x y z (Invalidate u) p e a n = absurd (n refl)
+kind-wrote s number x y z (Revalidate u) p e a n = absurd (n refl)
+kind-wrote s number x y z (Exclusive u) p e a n = absurd (n refl)
 
-decoded-wrote : (s : State) (number x y z : ℕ) (d : Decoded) (p : ℕ) → decodedIn s number x y z ≡ d
+formed-wrote : (s : State) (number x y z : ℕ) (d : Formed) (p : ℕ) → formedIn s number x y z ≡ d
     → Sensible (s .lent .M) (s .registers .current) d → AllHold (firstChecks s ++ instructionChecks s d)
     → getD (instructionDone s d .after .lent .memory) p 0 ≢ getD (s .lent .memory) p 0 → Wrote s (instruction number x y z) p
 unfolding doneAt
-decoded-wrote s number x y z (Kind q) p e v a n =
-    kind-wrote s number x y z q (q .instruction) p e refl (accepted-kind s (q .instruction) v a) n
-decoded-wrote s number x y z (Refused j) p e v a n = absurd (n refl)
+formed-wrote s number x y z (wellFormed i) p e v a n = kind-wrote s number x y z i p e (accepted-kind s i v a) n
+formed-wrote s number x y z (illFormed j) p e v a n = absurd (n refl)
 
 -- a block
 block-wrote : (s : State) (x : ℕ) (bytes : List ℕ) (p : ℕ) → AllHold (firstChecks s ++ blockChecks write s x (length bytes))
@@ -160,8 +156,8 @@ done-wrote : (s : State) (a : Action) (p : ℕ) → AllHold (checks s a) → get
     → Wrote s a p
 unfolding checks done
 done-wrote s (instruction number x y z) p v n =
-    decoded-wrote s number x y z (decodedIn s number x y z) p refl
-    (decoded-sensible (s .lent .M) (s .registers .current) 1 number x y z) v n
+    formed-wrote s number x y z (formedIn s number x y z) p refl
+    (formed-sensible (s .lent .M) (s .registers .current) number x y z) v n
 done-wrote s (blockWrite x bytes) p v n = block-wrote s x bytes p v n
 done-wrote s (readView x j) p v n = absurd (n refl)
 

@@ -10,22 +10,19 @@ use lib.Dec.{eqb, ltb}
 use borrow.Author.Tests.{eqb-true}
 use Rattle.rules.specs.Numbers.{Tables, State, N, held, grantOf, rightsIn, entry}
 use Rattle.rules.specs.Refusals.{firstChecks}
-use Rattle.rules.specs.Instructions.{addressOf, cellAt, grantNames, effect}
-use Rattle.rules.specs.Calls.{Action, instruction, blockWrite, readView, decodedIn, instructionChecks, instructionDone, doneAt, checks, done, performed}
-use Rattle.rules.specs.declared.Placed.{Placed}
-use Rattle.rules.specs.declared.Decoded.{Decoded}
-use Rattle.rules.specs.declared.Decoded.the-variants.{Kind, Refused}
+use Rattle.rules.specs.Instructions.{Formed, wellFormed, illFormed, addressOf, cellAt, grantNames, effect}
+use Rattle.rules.specs.Calls.{Action, instruction, blockWrite, readView, formedIn, instructionChecks, instructionDone, doneAt, checks, done, performed}
 use Rattle.rules.specs.declared.Instruction.{Instruction}
 use Rattle.rules.specs.declared.Instruction.the-variants.{Load, Store, Fetch, Switch, Protect, Grant, Receive, Transfer, Invalidate, Revalidate, Exclusive}
 use Rattle.rules.proofs.Below.{and-left, and-right, by-test, clash}
 use Rattle.rules.proofs.Checks.{AllHold}
-use Rattle.rules.proofs.Decoding.{Sensible, decoded-sensible}
+use Rattle.rules.proofs.Decoding.{Sensible, formed-sensible}
 use Rattle.rules.proofs.Grants.{receive-spent, transfer-leaves}
 use Rattle.rules.proofs.Kept.{Begun}
 use Rattle.rules.proofs.Sizes.{entry-below}
 use Rattle.rules.proofs.Laws.{accepted-exactly, accepted-done}
 use Rattle.history.specs.History.{Right}
-use Rattle.history.specs.Shown.{has, holdsIn, offersIn, deedOf, decodedDeed, deedIn, isAccepted, takesBy, stateAt, beginsAt, shown}
+use Rattle.history.specs.Shown.{has, holdsIn, offersIn, deedOf, formedDeed, deedIn, isAccepted, takesBy, stateAt, beginsAt, shown}
 use Rattle.history.proofs.Bits.{has-none}
 use Rattle.history.proofs.Bounds.{Around, holder, never-around}
 use Rattle.history.proofs.Local.{Accepted, accepted-kind, entry-grants, no-grant, call-gain}
@@ -91,18 +88,18 @@ deed-gone s (Invalidate x) a k d m b e r = absurd (false≢true b)
 deed-gone s (Revalidate x) a k d m b e r = absurd (false≢true b)
 deed-gone s (Exclusive x) a k d m b e r = absurd (false≢true b)
 
-decoded-gone : (s : State) (v : Decoded) → Sensible (s .lent .M) (s .registers .current) v → AllHold (firstChecks s ++ instructionChecks s v)
-    → (k d m : ℕ) → takesBy s (decodedDeed v) k d m ≡ true → (e : ℕ) (r : Right)
+formed-gone : (s : State) (v : Formed) → Sensible (s .lent .M) (s .registers .current) v → AllHold (firstChecks s ++ instructionChecks s v)
+    → (k d m : ℕ) → takesBy s (formedDeed v) k d m ≡ true → (e : ℕ) (r : Right)
     → offersIn (instructionDone s v .after .lent) k m e r ≡ false
-unfolding doneAt decodedDeed takesBy
-decoded-gone s (Kind p) h a k d m b e r = deed-gone s (p .instruction) (accepted-kind s (p .instruction) h a) k d m b e r
-decoded-gone s (Refused n) h a k d m b e r = absurd (false≢true b)
+unfolding doneAt formedDeed takesBy
+formed-gone s (wellFormed i) h a k d m b e r = deed-gone s i (accepted-kind s i h a) k d m b e r
+formed-gone s (illFormed n) h a k d m b e r = absurd (false≢true b)
 
 done-gone : (s : State) (a : Action) → AllHold (checks s a) → (k d m : ℕ) → takesBy s (deedIn s a) k d m ≡ true → (e : ℕ) (r : Right)
     → offersIn (done s a .after .lent) k m e r ≡ false
 unfolding checks done deedIn takesBy
 done-gone s (instruction number x y z) v k d m b e r =
-    decoded-gone s (decodedIn s number x y z) (decoded-sensible (s .lent .M) (s .registers .current) 1 number x y z) v k d m b e r
+    formed-gone s (formedIn s number x y z) (formed-sensible (s .lent .M) (s .registers .current) number x y z) v k d m b e r
 done-gone s (blockWrite x bytes) v k d m b e r = absurd (false≢true b)
 done-gone s (readView x n) v k d m b e r = absurd (false≢true b)
 
@@ -124,30 +121,29 @@ nothing-held t k d r z = last-false (ltb k (N t) && ltb d (t .M)) _ (ap (has r) 
 entry-rights : (s : State) (c d : ℕ) → Begun s → c < N (s .lent) → d < s .lent .M → entry (s .lent) c d < length (s .lent .rights)
 entry-rights s c d b h l = omega (arith, b .sizes .rightsLong, entry-below c (N (s .lent)) d (s .lent .M) h l)
 
--- the state after what four numbers stand for, if they stand for a transfer
-decoded-nothing : (s : State) (q : Placed) (at to rights : ℕ) (r : Right) → q .instruction ≡ Transfer at to rights
-    → Sensible (s .lent .M) (s .registers .current) (Kind q) → AllHold (firstChecks s ++ instructionChecks s (Kind q))
-    → holdsIn (instructionDone s (Kind q) .after .lent) (cellAt (s .lent) at) (s .registers .current) r ≡ false
+-- the state after what four numbers are, if they are a transfer
+formed-nothing : (s : State) (at to rights : ℕ) (r : Right) → Sensible (s .lent .M) (s .registers .current) (wellFormed (Transfer at to rights))
+    → AllHold (firstChecks s ++ instructionChecks s (wellFormed (Transfer at to rights)))
+    → holdsIn (instructionDone s (wellFormed (Transfer at to rights)) .after .lent) (cellAt (s .lent) at) (s .registers .current) r ≡ false
 unfolding doneAt
-decoded-nothing s q at to rights r f h a =
+formed-nothing s at to rights r h a =
     let t = s .lent in
     let d = s .registers .current in
-    let v : Accepted s (Transfer at to rights) = subst (Accepted s) f (accepted-kind s (q .instruction) h a) in
-    subst (λ (i : Instruction). holdsIn (effect t d (cellAt t (addressOf i)) i) (cellAt t at) d r ≡ false) (sym f)
-    (nothing-held (effect t d (cellAt t at) (Transfer at to rights)) (cellAt t at) d r
-    (transfer-leaves t d (cellAt t at) at to rights (entry-rights s (cellAt t at) d (v .begun) (v .cell) (v .begun .current))))
+    let v = accepted-kind s (Transfer at to rights) h a in
+    nothing-held (effect t d (cellAt t at) (Transfer at to rights)) (cellAt t at) d r
+    (transfer-leaves t d (cellAt t at) at to rights (entry-rights s (cellAt t at) d (v .begun) (v .cell) (v .begun .current)))
 
 -- after an accepted transfer its maker holds no right on the cell
-pub transfer-nothing : (s : State) (number x y z : ℕ) (q : Placed) (at to rights : ℕ) → decodedIn s number x y z ≡ Kind q
-    → q .instruction ≡ Transfer at to rights → performed s (instruction number x y z) .number ≡ 0 → (r : Right)
+pub transfer-nothing : (s : State) (number x y z : ℕ) (at to rights : ℕ) → formedIn s number x y z ≡ wellFormed (Transfer at to rights)
+    → performed s (instruction number x y z) .number ≡ 0 → (r : Right)
     → holdsIn (performed s (instruction number x y z) .after .lent) (cellAt (s .lent) at) (s .registers .current) r ≡ false
 unfolding checks done
-transfer-nothing s number x y z q at to rights e f n r =
+transfer-nothing s number x y z at to rights e n r =
     let m = s .lent .M in
     let d = s .registers .current in
-    let h : Sensible m d (Kind q) = subst (Sensible m d) e (decoded-sensible m d 1 number x y z) in
-    let a : AllHold (firstChecks s ++ instructionChecks s (Kind q))
-    = subst (λ (v : Decoded). AllHold (firstChecks s ++ instructionChecks s v)) e (accepted-exactly s (instruction number x y z) .0 n) in
+    let h : Sensible m d (wellFormed (Transfer at to rights)) = subst (Sensible m d) e (formed-sensible m d number x y z) in
+    let a : AllHold (firstChecks s ++ instructionChecks s (wellFormed (Transfer at to rights)))
+    = subst (λ (v : Formed). AllHold (firstChecks s ++ instructionChecks s v)) e (accepted-exactly s (instruction number x y z) .0 n) in
     ap (λ o. holdsIn (o .after .lent) (cellAt (s .lent) at) d r) (accepted-done s (instruction number x y z) n)
-    ∙ ap (λ (v : Decoded). holdsIn (instructionDone s v .after .lent) (cellAt (s .lent) at) d r) e
-    ∙ decoded-nothing s q at to rights r f h a
+    ∙ ap (λ (v : Formed). holdsIn (instructionDone s v .after .lent) (cellAt (s .lent) at) d r) e
+    ∙ formed-nothing s at to rights r h a

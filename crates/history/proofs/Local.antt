@@ -11,22 +11,20 @@ use lib.Dec.{ltb, eqb}
 use borrow.Author.Tests.{ltb-true, lt-ltb, eqb-true, eq-eqb}
 use Rattle.rules.specs.Numbers.{Tables, State, N, held, grantOf, grantEntry, rightsIn, entry, partOf, join}
 use Rattle.rules.specs.Refusals.{firstChecks}
-use Rattle.rules.specs.Instructions.{addressOf, cellAt, grantNames, needs, effect, putRights, putGrant}
+use Rattle.rules.specs.Instructions.{Formed, wellFormed, illFormed, addressOf, cellAt, grantNames, needs, effect, putRights, putGrant}
 use Rattle.rules.specs.Blocks.{blockWritten}
-use Rattle.rules.specs.Calls.{Action, instruction, blockWrite, readView, decodedIn, kindChecks, doneAt, instructionChecks, instructionDone, checks, done, performed}
-use Rattle.rules.specs.declared.Decoded.{Decoded}
-use Rattle.rules.specs.declared.Decoded.the-variants.{Kind, Refused}
+use Rattle.rules.specs.Calls.{Action, instruction, blockWrite, readView, formedIn, kindChecks, doneAt, instructionChecks, instructionDone, checks, done, performed}
 use Rattle.rules.specs.declared.Instruction.{Instruction}
 use Rattle.rules.specs.declared.Instruction.the-variants.{Load, Store, Fetch, Switch, Protect, Grant, Receive, Transfer, Invalidate, Revalidate, Exclusive}
 use Rattle.rules.proofs.Below.{and-left, and-right, and-both, clash}
 use Rattle.rules.proofs.Checks.{AllHold}
-use Rattle.rules.proofs.Decoding.{InRange, Sensible, decoded-sensible}
+use Rattle.rules.proofs.Decoding.{InRange, Sensible, formed-sensible}
 use Rattle.rules.proofs.Needed.{protect-held, grant-held, transfer-held}
 use Rattle.rules.proofs.Sizes.{entry-below, same-cell, same-division}
 use Rattle.rules.proofs.Kept.{Begun, begun, Covering, covering}
 use Rattle.rules.proofs.Laws.{by-outcome}
 use Rattle.history.specs.History.{Right}
-use Rattle.history.specs.Shown.{has, holdsIn, offersIn, Deed, taking, making, neither, deedOf, decodedDeed, deedIn, isAccepted, takesBy, makesBy, sourceOf}
+use Rattle.history.specs.Shown.{has, holdsIn, offersIn, Deed, taking, making, neither, deedOf, formedDeed, deedIn, isAccepted, takesBy, makesBy, sourceOf}
 use Rattle.history.proofs.Bits.{has-part, has-join, has-none, put-cases}
 
 -- ---- what it says to hold, and to offer
@@ -276,37 +274,37 @@ module _ (s : State) where
   abbrev current : ℕ
   current = s .registers .current
 
-  decoded-gain : (d : Decoded) → Sensible (s .lent .M) (s .registers .current) d → AllHold (firstChecks s ++ instructionChecks s d)
+  formed-gain : (d : Formed) → Sensible (s .lent .M) (s .registers .current) d → AllHold (firstChecks s ++ instructionChecks s d)
       → (k e : ℕ) (r : Right) → holdsIn (s .lent) k e r ≡ false → holdsIn (instructionDone s d .after .lent) k e r ≡ true
-      → (eqb (instructionDone s d .number) 0 && takesBy s (decodedDeed d) k e (sourceOf (decodedDeed d)) ≡ true)
-      × (offersIn (s .lent) k (sourceOf (decodedDeed d)) e r ≡ true)
-  unfolding doneAt decodedDeed
-  decoded-gain (Kind p) v a k e r n h = kind-gain s (p .instruction) (accepted-kind s (p .instruction) v a) k e r n h
-  decoded-gain (Refused j) v a k e r n h = clash _ h n
+      → (eqb (instructionDone s d .number) 0 && takesBy s (formedDeed d) k e (sourceOf (formedDeed d)) ≡ true)
+      × (offersIn (s .lent) k (sourceOf (formedDeed d)) e r ≡ true)
+  unfolding doneAt formedDeed
+  formed-gain (wellFormed i) v a k e r n h = kind-gain s i (accepted-kind s i v a) k e r n h
+  formed-gain (illFormed j) v a k e r n h = clash _ h n
 
-  decoded-made : (d : Decoded) → Sensible (s .lent .M) (s .registers .current) d → AllHold (firstChecks s ++ instructionChecks s d)
-      → (k m e : ℕ) (r : Right) → eqb (instructionDone s d .number) 0 && makesBy s (decodedDeed d) k m ≡ true
+  formed-made : (d : Formed) → Sensible (s .lent .M) (s .registers .current) d → AllHold (firstChecks s ++ instructionChecks s d)
+      → (k m e : ℕ) (r : Right) → eqb (instructionDone s d .number) 0 && makesBy s (formedDeed d) k m ≡ true
       → offersIn (instructionDone s d .after .lent) k m e r ≡ true → holdsIn (s .lent) k m r ≡ true
-  unfolding doneAt decodedDeed makesBy
-  decoded-made (Kind p) v a k m e r b h = kind-made s (p .instruction) (accepted-kind s (p .instruction) v a) k m e r b h
-  decoded-made (Refused j) v a k m e r b h = absurd (false≢true b)
+  unfolding doneAt formedDeed makesBy
+  formed-made (wellFormed i) v a k m e r b h = kind-made s i (accepted-kind s i v a) k m e r b h
+  formed-made (illFormed j) v a k m e r b h = absurd (false≢true b)
 
-  decoded-kept : (d : Decoded) → Sensible (s .lent .M) (s .registers .current) d → AllHold (firstChecks s ++ instructionChecks s d)
-      → (k m e : ℕ) (r : Right) → eqb (instructionDone s d .number) 0 && makesBy s (decodedDeed d) k m ≡ false
+  formed-kept : (d : Formed) → Sensible (s .lent .M) (s .registers .current) d → AllHold (firstChecks s ++ instructionChecks s d)
+      → (k m e : ℕ) (r : Right) → eqb (instructionDone s d .number) 0 && makesBy s (formedDeed d) k m ≡ false
       → offersIn (instructionDone s d .after .lent) k m e r ≡ true → offersIn (s .lent) k m e r ≡ true
-  unfolding doneAt decodedDeed
-  decoded-kept (Kind p) v a k m e r b h = kind-kept s (p .instruction) (accepted-kind s (p .instruction) v a) k m e r b h
-  decoded-kept (Refused j) v a k m e r b h = h
+  unfolding doneAt formedDeed
+  formed-kept (wellFormed i) v a k m e r b h = kind-kept s i (accepted-kind s i v a) k m e r b h
+  formed-kept (illFormed j) v a k m e r b h = h
 
-  sensible : (number x y z : ℕ) → Sensible (s .lent .M) (s .registers .current) (decodedIn s number x y z)
-  sensible number x y z = decoded-sensible (s .lent .M) (s .registers .current) 1 number x y z
+  sensible : (number x y z : ℕ) → Sensible (s .lent .M) (s .registers .current) (formedIn s number x y z)
+  sensible number x y z = formed-sensible (s .lent .M) (s .registers .current) number x y z
 
   done-gain : (a : Action) → AllHold (checks s a) → (k e : ℕ) (r : Right) → holdsIn (s .lent) k e r ≡ false
       → holdsIn (done s a .after .lent) k e r ≡ true
       → (eqb (done s a .number) 0 && takesBy s (deedIn s a) k e (sourceOf (deedIn s a)) ≡ true)
       × (offersIn (s .lent) k (sourceOf (deedIn s a)) e r ≡ true)
   unfolding checks done deedIn holdsIn blockWritten
-  done-gain (instruction number x y z) v k e r n h = decoded-gain (decodedIn s number x y z) (sensible number x y z) v k e r n h
+  done-gain (instruction number x y z) v k e r n h = formed-gain (formedIn s number x y z) (sensible number x y z) v k e r n h
   done-gain (blockWrite x bytes) v k e r n h = clash _ h n
   done-gain (readView x j) v k e r n h = clash _ h n
 
@@ -314,7 +312,7 @@ module _ (s : State) where
       → eqb (done s a .number) 0 && makesBy s (deedIn s a) k m ≡ true
       → offersIn (done s a .after .lent) k m e r ≡ true → holdsIn (s .lent) k m r ≡ true
   unfolding checks done deedIn makesBy
-  done-made (instruction number x y z) v k m e r b h = decoded-made (decodedIn s number x y z) (sensible number x y z) v k m e r b h
+  done-made (instruction number x y z) v k m e r b h = formed-made (formedIn s number x y z) (sensible number x y z) v k m e r b h
   done-made (blockWrite x bytes) v k m e r b h = absurd (false≢true b)
   done-made (readView x j) v k m e r b h = absurd (false≢true b)
 
@@ -322,7 +320,7 @@ module _ (s : State) where
       → eqb (done s a .number) 0 && makesBy s (deedIn s a) k m ≡ false
       → offersIn (done s a .after .lent) k m e r ≡ true → offersIn (s .lent) k m e r ≡ true
   unfolding checks done deedIn offersIn blockWritten
-  done-kept (instruction number x y z) v k m e r b h = decoded-kept (decodedIn s number x y z) (sensible number x y z) v k m e r b h
+  done-kept (instruction number x y z) v k m e r b h = formed-kept (formedIn s number x y z) (sensible number x y z) v k m e r b h
   done-kept (blockWrite x bytes) v k m e r b h = h
   done-kept (readView x j) v k m e r b h = h
 

@@ -2,15 +2,17 @@
 -- of every run holds of what the functions do. Assumes nothing.
 use Prim.Native.Nat.{ℕ, zero, suc}
 use mathlib.Core.Path.{_≡_, refl, sym, ap, _∙_, subst}
-use mathlib.Core.List.{List, [], _∷_}
+use mathlib.Core.List.{List, [], _∷_, _++_}
+use mathlib.Core.Logic.{_≢_}
 use mathlib.Core.Bool.{true}
+use native.Mathlib.Omega.{arith}
 use lib.ListN.{length, getD}
 use Rattle.rules.specs.Numbers.{State}
 use Rattle.rules.specs.Refusals.{Outcome}
 use Rattle.rules.specs.Calls.{Action, readView, performed, outcomes, afterAll}
 use Rattle.history.specs.History.{Right, Held}
-use Rattle.history.specs.Shown.{holdsIn, stateAt, shown}
-use Rattle.history.proofs.Demand3.{right-history}
+use Rattle.history.specs.Shown.{holdsIn, stateAt, shown, LastWritten}
+use Rattle.history.proofs.Demand3.{right-history, byte-history}
 
 -- from s the calls were made in turn, and each outcome is what its contract says: o ≡ performed s a
 pub data Called : State → List Action → List Outcome → State → Type 0 where
@@ -51,3 +53,22 @@ pub called-history : {s : State} {calls : List Action} {os : List Outcome} {end 
 called-history {s} {calls} {end = end} w c d r h =
     right-history (steps calls) s (length calls) c d r
     (subst (λ (u : State). holdsIn (u .lent) c d r ≡ true) (called-end w ∙ end-state calls s) h)
+
+-- and a byte that differs was last changed by an accepted store or block write from a division then holding write
+pub called-bytes : {s : State} {calls : List Action} {os : List Outcome} {end : State} → Called s calls os end → (p : ℕ)
+    → getD (end .lent .memory) p 0 ≢ getD (s .lent .memory) p 0 → LastWritten (steps calls) s 0 (length calls) p
+called-bytes {s} {calls} {end = end} w p ne =
+    byte-history (steps calls) s (length calls) 0 p (omega arith)
+    (λ e. ne (ap (λ (u : State). getD (u .lent .memory) p 0) (called-end w ∙ end-state calls s) ∙ e))
+
+-- the definition's own run
+pub called-run : (s : State) (calls : List Action) → Called s calls (outcomes s calls) (afterAll s calls)
+unfolding outcomes afterAll
+called-run s [] = none-called
+called-run s (a ∷ calls) = one-called refl (called-run (performed s a .after) calls)
+
+-- one list of calls after another
+pub after-more : (s : State) (calls more : List Action) → afterAll s (calls ++ more) ≡ afterAll (afterAll s calls) more
+unfolding afterAll
+after-more s [] more = refl
+after-more s (a ∷ calls) more = after-more (performed s a .after) calls more

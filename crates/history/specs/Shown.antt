@@ -6,11 +6,8 @@ use mathlib.Core.Bool.{Bool, true, false, _&&_}
 use lib.ListN.{length, getD}
 use lib.Dec.{ltb, eqb}
 use Rattle.rules.specs.Numbers.{Tables, State, N, held, grantOf, rightsIn, firstOf, lastOf, offsetOf, markOf}
-use Rattle.rules.specs.Instructions.{cellAt, place, grantNames, valid}
-use Rattle.rules.specs.Calls.{Action, instruction, blockWrite, readView, decodedIn, performed}
-use Rattle.rules.specs.declared.Placed.{Placed}
-use Rattle.rules.specs.declared.Decoded.{Decoded}
-use Rattle.rules.specs.declared.Decoded.the-variants.{Kind, Refused}
+use Rattle.rules.specs.Instructions.{Formed, wellFormed, illFormed, cellAt, place, grantNames, valid}
+use Rattle.rules.specs.Calls.{Action, instruction, blockWrite, readView, formedIn, performed}
 use Rattle.rules.specs.declared.Instruction.{Instruction}
 use Rattle.rules.specs.declared.Instruction.the-variants.{Load, Store, Fetch, Switch, Protect, Grant, Receive, Transfer, Invalidate, Revalidate, Exclusive}
 use Rattle.history.specs.History.{Right, toRead, toWrite, toExecute, Run}
@@ -52,12 +49,12 @@ deedOf (Invalidate x) = neither
 deedOf (Revalidate x) = neither
 deedOf (Exclusive x) = neither
 
-unfoldable pub decodedDeed : Decoded → Deed
-decodedDeed (Kind p) = deedOf (p .instruction)
-decodedDeed (Refused n) = neither
+unfoldable pub formedDeed : Formed → Deed
+formedDeed (wellFormed i) = deedOf i
+formedDeed (illFormed n) = neither
 
 unfoldable pub deedIn : State → Action → Deed
-deedIn s (instruction number x y z) = decodedDeed (decodedIn s number x y z)
+deedIn s (instruction number x y z) = formedDeed (formedIn s number x y z)
 deedIn s (blockWrite x bytes) = neither
 deedIn s (readView x n) = neither
 
@@ -120,7 +117,7 @@ module _ (calls : ℕ → Action) (start : State) where
 
 -- the call is a store or block write on the cell c, and p is among the places in memory that it writes
 pub data Writes (s : State) (p : ℕ) : Action → (c : ℕ) → Type 0 where
-  by-store : {number x y z : ℕ} (q : Placed) (at v : ℕ) → decodedIn s number x y z ≡ Kind q → q .instruction ≡ Store at v
+  by-store : {number x y z : ℕ} (at v : ℕ) → formedIn s number x y z ≡ wellFormed (Store at v)
       → p ≡ place (s .lent) (cellAt (s .lent) at) at → Writes s p (instruction number x y z) (cellAt (s .lent) at)
   by-block : {x : ℕ} {bytes : List ℕ} → place (s .lent) (cellAt (s .lent) x) x ≤ p
       → p < place (s .lent) (cellAt (s .lent) x) x + length bytes → Writes s p (blockWrite x bytes) (cellAt (s .lent) x)

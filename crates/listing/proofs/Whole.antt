@@ -39,17 +39,17 @@ module _ (s : State) (l out : List ℕ) where
   answers-long : (part : Outcome → ℕ) (k : ℕ) → length (answersIn part s l k out) ≡ length out
   unfolding answersIn
   answers-long part zero = refl
-  answers-long part (suc k) = length-set (answersIn part s l k out) k (part (answerAt s l k)) ∙ answers-long part k
+  answers-long part (suc k) = length-set (answersIn part s l k out) k (part (answerAt s l k .outcome)) ∙ answers-long part k
 
-  answers-at : (part : Outcome → ℕ) (k i : ℕ) → i < k → k ≤ length out → getD (answersIn part s l k out) i 0 ≡ part (answerAt s l i)
+  answers-at : (part : Outcome → ℕ) (k i : ℕ) → i < k → k ≤ length out → getD (answersIn part s l k out) i 0 ≡ part (answerAt s l i .outcome)
   unfolding answersIn
   answers-at part zero i h f = absurd (omega arith)
   answers-at part (suc k) i h f =
       by-test (eqb i k)
       (λ e. let q : i ≡ k = eqb-true i k e in
-      rw q (getD-set-same (answersIn part s l k out) k (part (answerAt s l k)) 0 (omega (arith, answers-long part k))))
+      rw q (getD-set-same (answersIn part s l k out) k (part (answerAt s l k .outcome)) 0 (omega (arith, answers-long part k))))
       (λ e. let q : i ≡ k → ⊥ = eqb-false i k e in
-      getD-set-other (answersIn part s l k out) k i (part (answerAt s l k)) 0 q ∙ answers-at part k i (omega arith) (omega arith))
+      getD-set-other (answersIn part s l k out) k i (part (answerAt s l k .outcome)) 0 q ∙ answers-at part k i (omega arith) (omega arith))
 
 -- the same lines, where each is the same
 lines-same : (f g : ℕ → List ℕ) (i k : ℕ) → ((j : ℕ) → i ≤ j → j < i + k → f j ≡ g j) → linesOf f i k ≡ linesOf g i k

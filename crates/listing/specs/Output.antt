@@ -26,9 +26,11 @@ unfoldable pub linesOf : (line : ℕ → List ℕ) (i k : ℕ) → List ℕ
 linesOf line i zero = []
 linesOf line i (suc k) = line i ++ linesOf line (i + 1) k
 
--- of the instruction numbered i from 0: its position from 1, number, value
+-- of the instruction numbered i from 0: its listing position, number, value
 unfoldable pub answerLine : State → (numbers : List ℕ) (i : ℕ) → List ℕ
-answerLine start l i = line3 answerWord (i + 1) (answerAt start l i .number) (answerAt start l i .value)
+answerLine start l i =
+    let a = answerAt start l i in
+    line3 answerWord (a .position) (a .outcome .number) (a .outcome .value)
 
 unfoldable pub coreLine : Registers → List ℕ
 coreLine r = line3 coreWord (r .current) (r .caller) (r .place)

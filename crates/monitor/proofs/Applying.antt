@@ -16,8 +16,9 @@ use Rattle.rules.specs.declared.Instruction.{Instruction}
 use Rattle.rules.specs.declared.Instruction.the-variants.{Load, Store, Fetch, Switch, Protect, Grant, Receive, Transfer, Invalidate, Revalidate, Exclusive}
 use Rattle.rules.proofs.Checks.{AllHold}
 use Rattle.rules.proofs.Decoding.{Offer}
-use Rattle.monitor.specs.Ready.{Ready, came}
-use Rattle.monitor.specs.declared.Reply.{Reply}
+use Rattle.monitor.specs.Answers.{came}
+use Rattle.monitor.specs.Ready.{Ready}
+use Rattle.monitor.specs.declared.reply.Reply.{Reply}
 use Rattle.monitor.proofs.Readiness.{own-rights, operands-fit, word-there}
 
 -- 1 where a test holds

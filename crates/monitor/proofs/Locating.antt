@@ -24,7 +24,8 @@ use Rattle.monitor.specs.Leaves.{locatedBy, locatedIn, callChecks, place
 use Rattle.monitor.specs.declared.block.Located.{Located}
 use Rattle.monitor.specs.declared.block.Located.the-variants.{At as LocatedAt, Refused}
 use Rattle.monitor.proofs.Searching.{FoundAt}
-use Rattle.monitor.specs.Ready.{checksAnswer, firstAnswer, viewPlaceIn}
+use Rattle.monitor.specs.Answers.{viewPlaceIn}
+use Rattle.monitor.specs.Ready.{checksAnswer, firstAnswer}
 use Rattle.rules.specs.declared.Answer.{Answer}
 use Rattle.monitor.proofs.Beginning.{refusedBy, first-hold}
 

@@ -1,18 +1,22 @@
 -- Laws of instructions one after the other: a turn of the loop, and a list that is refused as a whole. Assumes nothing.
-use Prim.Native.Nat.{ℕ, zero, suc, _+_, _*_, _≤_}
+use Prim.Native.Nat.{ℕ, zero, suc, _+_, _-_, _*_, _≤_}
 use mathlib.Core.Path.{_≡_, refl, sym, ap, _∙_, subst}
-use mathlib.Core.List.{List}
+use mathlib.Core.List.{List, [], _∷_}
 use native.Mathlib.Omega.{arith}
 use native.Mathlib.Numerals.{add-one}
-use lib.ListN.{length, set, length-set}
-use Rattle.rules.specs.Numbers.{State}
+use lib.ListN.{length, getD, set, length-set}
+use Rattle.rules.specs.Numbers.{Tables, State, state}
 use Rattle.rules.specs.Refusals.{Outcome}
-use Rattle.rules.specs.Calls.{performed}
+use Rattle.rules.specs.Instructions.{Formed, wellFormed, illFormed}
+use Rattle.rules.specs.Calls.{instruction, formedIn, instructionDone, doneAt, done, performed}
+use Rattle.rules.specs.declared.Registers.{Registers}
 use Rattle.rules.specs.declared.Answer.{Answer}
 use Rattle.rules.proofs.Kept.{Begun, SameShape, shape-same, shape-then}
-use Rattle.rules.proofs.Laws.{begun-kept, shape-kept}
+use Rattle.rules.proofs.Laws.{by-outcome, begun-kept, shape-kept}
+use Rattle.monitor.specs.Answers.{came}
 use Rattle.monitor.specs.Ready.{firstAnswer}
-use Rattle.monitor.specs.Runs.{instructionAt, roomFor, Ran, ran, runFirst, afterFirst, answersIn, filled}
+use Rattle.monitor.specs.Runs.{instructionAt, roomFor, Listed, listed, Ran, ran, runFirst, runAll, afterFirst, answersIn}
+use Rattle.monitor.specs.Leaves.{filled}
 use Rattle.monitor.proofs.Beginning.{refusedBy, first-refuse}
 
 -- ---- room
@@ -45,18 +49,28 @@ pub turn-first : (s : State) (l numbers values : List ℕ) → Begun s → Turn 
 unfolding afterFirst answersIn
 turn-first s l numbers values b = record { at = refl; begun = b; shape = shape-same (s .lent); numbered = refl; valued = refl; long = refl; wide = refl }
 
-pub turn-next : {s : State} {l numbers values : List ℕ} {k : ℕ} {u : State} {ns vs : List ℕ} (o : Outcome) → Turn s l numbers values k u ns vs
-    → o ≡ performed u (instructionAt l k)
-    → Turn s l numbers values (k + 1) (o .after) (set ns k (o .number)) (set vs k (o .value))
+-- an answer beside its position: the position, and the entry that it names
+module _ {p : ℕ} (k : ℕ) {o q : Outcome} (e : listed p o ≡ listed (k + 1) q) where
+  pub position-told : p ≡ k + 1
+  position-told = ap (λ (a : Listed). a .position) e
+
+  pub position-entry : p - 1 ≡ k
+  position-entry = omega (arith, position-told)
+
+-- the answer goes to the entry that its position names
+pub turn-next : {s : State} {l numbers values : List ℕ} {k p : ℕ} {u : State} {ns vs : List ℕ} (o : Outcome) → Turn s l numbers values k u ns vs
+    → listed p o ≡ listed (k + 1) (performed u (instructionAt l k))
+    → Turn s l numbers values (k + 1) (o .after) (set ns (p - 1) (o .number)) (set vs (p - 1) (o .value))
 unfolding afterFirst answersIn
-turn-next {s} {l} {numbers} {values} {k} {u} {ns} {vs} o t e =
+turn-next {s} {l} {numbers} {values} {k} {p} {u} {ns} {vs} o t h =
+    let e : o ≡ performed u (instructionAt l k) = ap (λ (a : Listed). a .outcome) h in
     let q : o ≡ performed (afterFirst s l k) (instructionAt l k) = e ∙ ap (λ (w : State). performed w (instructionAt l k)) (t .at) in
     record {
       at = rw add-one (ap (λ (p : Outcome). p .after) q);
       begun = subst (λ (p : Outcome). Begun (p .after)) (sym e) (begun-kept u (instructionAt l k) (t .begun));
       shape = shape-then (t .shape) (subst (λ (p : Outcome). SameShape (u .lent) (p .after .lent)) (sym e) (shape-kept u (instructionAt l k)));
-      numbered = rw (add-one, ← q, t .numbered);
-      valued = rw (add-one, ← q, t .valued);
+      numbered = rw (position-entry k h, add-one, ← q, t .numbered);
+      valued = rw (position-entry k h, add-one, ← q, t .valued);
       long = simp length-set (t .long);
       wide = simp length-set (t .wide);
     }
@@ -100,3 +114,24 @@ module _ (s : State) (a : Answer) (e : a ≡ firstAnswer s) (h : a .number ≡ 0
 pub filled-more : (v k : ℕ) (out : List ℕ) → set (filled v k out) k v ≡ filled v (k + 1) out
 unfolding filled
 filled-more v k out = rw add-one
+
+-- ---- a list of one
+
+-- an instruction hands back no part
+formed-no-part : (s : State) (f : Formed) → instructionDone s f .part ≡ []
+unfolding doneAt
+formed-no-part s (wellFormed i) = refl
+formed-no-part s (illFormed n) = refl
+
+no-part : (s : State) (number x y z : ℕ) → performed s (instruction number x y z) .part ≡ []
+unfolding done
+no-part s number x y z =
+    by-outcome (λ o. o .part ≡ []) s (instruction number x y z) (λ n k. refl) (λ h. formed-no-part s (formedIn s number x y z))
+
+-- a list of one instruction was run: what it leaves is what the instruction answers
+pub ran-one : (s : State) (number x y z : ℕ) (t : Tables) (r : Registers) (ns vs : List ℕ)
+    → ran (state t r) ns vs ≡ runAll s (number ∷ x ∷ y ∷ z ∷ []) (0 ∷ []) (0 ∷ [])
+    → came (record { number = getD ns 0 0; value = getD vs 0 0; registers = r }) t ≡ performed s (instruction number x y z)
+unfolding roomFor afterFirst answersIn
+ran-one s number x y z t r ns vs e =
+    λ i. record { number = getD (e i .numbers) 0 0; value = getD (e i .values) 0 0; part = sym (no-part s number x y z) i; after = e i .after }

@@ -1,15 +1,17 @@
 -- Two outcomes that one contract allows are equal: for each public function, over its contract as the source states it
--- (`Post` is what its `ensures` says of the arguments, the result and the parameters at exit). Assumes nothing.
+-- (`Post` is what its `ensures` says of the arguments, the result and the parameters at exit). A list that is lent with `&`
+-- cannot be written through and comes back as it was passed, so the theorems about the views, which take nothing else, speak
+-- of the result alone. Assumes nothing.
 use Prim.Native.Nat.{ℕ}
 use mathlib.Core.Path.{_≡_, ap}
 use mathlib.Core.List.{List}
 use denote.Ref.{now}
 use Rattle.rules.specs.Numbers.{Tables}
-use Rattle.rules.specs.Lent.{Slice, Passed, lentOf}
+use Rattle.rules.specs.Lent.{Slice, refers, Passed, lentOf, restOf}
 use Rattle.rules.specs.declared.Registers.{Registers}
 use Rattle.rules.proofs.Laws.{one-outcome}
-use Rattle.monitor.specs.Ready.{came}
-use Rattle.monitor.specs.declared.Reply.{Reply}
+use Rattle.monitor.specs.Answers.{came}
+use Rattle.monitor.specs.declared.reply.Reply.{Reply}
 use Rattle.monitor.proofs.execute.Reads as execute-reads
 use Rattle.monitor.proofs.execute_all.Reads as execute-all-reads
 use Rattle.monitor.proofs.write_block.Reads as write-block-reads
@@ -17,15 +19,13 @@ use Rattle.monitor.proofs.view_answer.Reads as view-answer-reads
 use Rattle.monitor.proofs.view_place.Reads as view-place-reads
 use Rattle.monitor.proofs.view.Reads as view-reads
 
--- ---- the parameters of a call: M, the seven lists, and the rest
-
 -- the lists at exit, with the M that was passed
 abbrev pub lists : {Rest End : Type 0} → Passed Rest → Passed End → Tables
 lists a s = lentOf (a .0, s .1)
 
 -- of `execute_all`, whose rest is the registers, the instructions and the lists of answers: both of these at exit
 abbrev pub answers : Passed (Registers × (Slice × (Slice × (Slice × Unit {0})))) → List ℕ × List ℕ
-answers s = (now (s .1 .1 .1 .1 .1 .1 .1 .1 .1 .1 .0), now (s .1 .1 .1 .1 .1 .1 .1 .1 .1 .1 .1 .0))
+answers s = (now (restOf s .1 .1 .0), now (restOf s .1 .1 .1 .0))
 
 -- ---- one outcome
 
@@ -36,7 +36,8 @@ same-reply e = λ i. record { number = e i .number; value = e i .value; register
 pub view-answer-unique : (κs : _) (a : _) (r q : _) (s : _) → view-answer-reads.Post κs a r s → view-answer-reads.Post κs a q s → r ≡ q
 view-answer-unique κs a r q s = one-outcome
 
-pub view-unique : (κs : _) (a : _) (r q : _) (s : _) → view-reads.Post κs a r s → view-reads.Post κs a q s → r .now ≡ q .now
+-- the same reference: it points to the same place, and the same bytes stand there
+pub view-unique : (κs : _) (a : _) (r q : _) (s : _) → view-reads.Post κs a r s → view-reads.Post κs a q s → refers r ≡ refers q
 view-unique κs a r q s = one-outcome
 
 -- the reply and every lent list at exit

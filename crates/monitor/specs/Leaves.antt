@@ -1,9 +1,9 @@
--- What the monitor's searches answer, in the rules' words.
-use Prim.Native.Nat.{ℕ, suc, _≤_, _<_}
+-- What the monitor's inner functions answer, in the rules' words. No public contract cites this.
+use Prim.Native.Nat.{ℕ, zero, suc, _≤_, _<_}
 use mathlib.Core.Path.{_≡_}
 use mathlib.Core.List.{List, _++_}
 use mathlib.Core.Bool.{cond}
-use lib.ListN.{length, getD}
+use lib.ListN.{length, getD, set}
 use lib.Dec.{ltb, eqb}
 use Rattle.rules.specs.Numbers.{State}
 use Rattle.rules.specs.Refusals.{Check, firstFailing, firstChecks}
@@ -48,3 +48,8 @@ callChecks right s x n = firstChecks s ++ blockChecks right s x n
 -- by all of them
 abbrev pub placedIn : (right : ℕ) → State → (x n : ℕ) → Located
 placedIn right s x n = locatedBy (callChecks right s x n) s x
+
+-- a list whose first k entries are v
+unfoldable pub filled : (v k : ℕ) → List ℕ → List ℕ
+filled v zero out = out
+filled v (suc k) out = set (filled v k out) k v

@@ -23,14 +23,22 @@ unfoldable pub afterFirst : State → List ℕ → (k : ℕ) → State
 afterFirst s l zero = s
 afterFirst s l (suc k) = performed (afterFirst s l k) (instructionAt l k) .after
 
--- what the instruction numbered k from 0 is answered, in its turn
-abbrev pub answerAt : State → List ℕ → (k : ℕ) → Outcome
-answerAt s l k = performed (afterFirst s l k) (instructionAt l k)
+-- an answer beside the listing position of its instruction
+pub record Listed : Type 0 where
+  pub position : ℕ
+  pub outcome : Outcome
+
+abbrev pub listed : (position : ℕ) → Outcome → Listed
+listed p o = record { position = p; outcome = o }
+
+-- what the instruction numbered k from 0 is answered in its turn; positions count from 1
+abbrev pub answerAt : State → List ℕ → (k : ℕ) → Listed
+answerAt s l k = listed (k + 1) (performed (afterFirst s l k) (instructionAt l k))
 
 -- a list whose first k entries are one part of the first k answers
 unfoldable pub answersIn : (part : Outcome → ℕ) → State → List ℕ → (k : ℕ) → List ℕ → List ℕ
 answersIn part s l zero out = out
-answersIn part s l (suc k) out = set (answersIn part s l k out) k (part (answerAt s l k))
+answersIn part s l (suc k) out = set (answersIn part s l k out) k (part (answerAt s l k .outcome))
 
 -- what a list of instructions leaves: the state, and the lists of the answers' numbers and values
 pub record Ran : Type 0 where
@@ -48,8 +56,3 @@ runFirst s l k n v = ran (afterFirst s l k) (answersIn (λ o. o .number) s l k n
 -- as many as are whole and have room for both answers
 abbrev pub runAll : State → (instructions numbers values : List ℕ) → Ran
 runAll s l n v = runFirst s l (roomIn l n v) n v
-
--- a list whose first k entries are v
-unfoldable pub filled : (v k : ℕ) → List ℕ → List ℕ
-filled v zero out = out
-filled v (suc k) out = set (filled v k out) k v

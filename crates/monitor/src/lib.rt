@@ -1,12 +1,12 @@
 // The monitor's calls. Each tests everything that it is lent, and none has a `requires`. A refusal gives the number of
 // the first failing check and changes nothing.
 mod apply;
-mod back;
 mod block;
 mod find;
 mod judge;
 mod list;
 mod look;
+mod reply;
 mod step;
 
 ghost use mathlib.Core.Path.{_≡_};
@@ -14,38 +14,23 @@ ghost use mathlib.Core.Bool.{_&&_};
 ghost use lib.Dec.{ltb};
 ghost use Rattle.monitor.specs.Runs.{ran, runAll};
 ghost use Rattle.rules.specs.Numbers.{state};
-ghost use Rattle.rules.specs.Lent.{before, after};
+ghost use Rattle.rules.specs.Lent.{before, after, refers, partOfLent};
 ghost use Rattle.rules.specs.Calls.{instruction, blockWrite, readView, performed};
-ghost use Rattle.monitor.specs.Ready.{firstAnswer, answerIn, viewPlaceIn, came};
+ghost use Rattle.monitor.specs.Answers.{came, answerIn, viewPlaceIn};
+ghost use Rattle.monitor.specs.Ready.{firstAnswer};
 ghost use Rattle.monitor.specs.Leaves.{placedIn};
-use back::accept;
-use back::refuse;
+pub use reply::Reply;
+pub use reply::ViewPlace;
 use block::Located;
 use block::copy_into;
 use block::locate;
 use list::fill;
 use list::room_for;
 use list::run_list;
+use reply::accept;
+use reply::refuse;
 use rules::Answer;
 use rules::Registers;
-use step::perform;
-
-// What a call answers: a number of the refusal list, 0 for acceptance, the value that goes with it, and the registers.
-#[repr(C)]
-pub struct Reply {
-    pub number: u32,
-    pub value: u32,
-    pub registers: Registers,
-}
-
-// A read view's number and value, where its part begins in the memory, and how many bytes it has; both 0 on a refusal.
-#[repr(C)]
-pub struct ViewPlace {
-    pub number: u32,
-    pub value: u32,
-    pub start: usize,
-    pub count: usize,
-}
 
 // Whether current and caller are divisions.
 fn known(m: usize, registers: Registers) -> bool
@@ -84,59 +69,6 @@ fn begin(
         }
     } else {
         checked
-    }
-}
-
-// One instruction, given as four numbers: a listing of one, at position 1.
-pub fn execute(
-    m: usize,
-    first: &[u32],
-    last: &[u32],
-    offset: &[u32],
-    marks: &mut [u8],
-    rights: &mut [u8],
-    grants: &mut [u16],
-    memory: &mut [u8],
-    registers: Registers,
-    number: u32,
-    x: u32,
-    y: u32,
-    z: u32,
-) -> Reply
-    ensures { λ r. ⌜ came r (after m first last offset marks rights grants memory)
-        ≡ performed (state (before m first last offset marks rights grants memory) registers) (instruction number x y z) ⌝ }
-{
-    let begun = begin(
-        m,
-        first,
-        last,
-        offset,
-        marks,
-        rights,
-        grants,
-        memory,
-        registers,
-    );
-    let n = begun.number;
-    if n == 0 {
-        perform(
-            m,
-            first,
-            last,
-            offset,
-            marks,
-            rights,
-            grants,
-            memory,
-            registers,
-            1,
-            number,
-            x,
-            y,
-            z,
-        )
-    } else {
-        refuse(n, begun.value, registers)
     }
 }
 
@@ -192,6 +124,49 @@ pub fn execute_all(
         fill(numbers, count, n);
         fill(values, count, begun.value);
         registers
+    }
+}
+
+// One instruction, given as four numbers: a list of one.
+pub fn execute(
+    m: usize,
+    first: &[u32],
+    last: &[u32],
+    offset: &[u32],
+    marks: &mut [u8],
+    rights: &mut [u8],
+    grants: &mut [u16],
+    memory: &mut [u8],
+    registers: Registers,
+    number: u32,
+    x: u32,
+    y: u32,
+    z: u32,
+) -> Reply
+    ensures { λ r. ⌜ came r (after m first last offset marks rights grants memory)
+        ≡ performed (state (before m first last offset marks rights grants memory) registers) (instruction number x y z) ⌝ }
+{
+    let instruction = [number, x, y, z];
+    let mut numbers = [0u32; 1];
+    let mut values = [0u32; 1];
+    let end = execute_all(
+        m,
+        first,
+        last,
+        offset,
+        marks,
+        rights,
+        grants,
+        memory,
+        registers,
+        &instruction,
+        &mut numbers,
+        &mut values,
+    );
+    Reply {
+        number: numbers[0],
+        value: values[0],
+        registers: end,
     }
 }
 
@@ -285,7 +260,7 @@ pub fn write_block(
     }
 }
 
-// The part of the lent memory itself that holds the `n` bytes from `x` on; an empty part on a refusal.
+// The part of the lent memory itself that holds the `n` bytes from `x` on; on a refusal an empty part, at its start.
 pub fn view<'a>(
     m: usize,
     first: &[u32],
@@ -299,7 +274,8 @@ pub fn view<'a>(
     x: u32,
     n: usize,
 ) -> &'a [u8]
-    ensures { λ r. ⌜ now r ≡ performed (state (before m first last offset marks rights grants memory) registers) (readView x n) .part ⌝ }
+    ensures { λ r. ⌜ refers r ≡ partOfLent (memory .entry) (viewPlaceIn (state (before m first last offset marks rights grants memory) registers) x n .start)
+        (performed (state (before m first last offset marks rights grants memory) registers) (readView x n) .part) ⌝ }
 {
     let located = place_block(
         rules::READ,

@@ -5,7 +5,8 @@ ghost use lib.ListN.{length};
 ghost use Rattle.rules.specs.Numbers.{state};
 ghost use Rattle.rules.specs.Lent.{given, before, after};
 ghost use Rattle.rules.proofs.Kept.{Begun};
-ghost use Rattle.monitor.specs.Runs.{roomFor, ran, runFirst, filled};
+ghost use Rattle.monitor.specs.Runs.{roomFor, ran, runFirst};
+ghost use Rattle.monitor.specs.Leaves.{filled};
 use crate::step::perform;
 use rules::Registers;
 
@@ -59,7 +60,7 @@ pub fn run_list(
     let mut k: usize = 0;
     while k < count {
         let at = 4 * k;
-        let reply = perform(
+        let answered = perform(
             m,
             first,
             last,
@@ -75,8 +76,11 @@ pub fn run_list(
             instructions[at + 2],
             instructions[at + 3],
         );
-        numbers[k] = reply.number;
-        values[k] = reply.value;
+        let reply = answered.reply;
+        // Positions count from 1, entries from 0.
+        let entry = answered.position - 1;
+        numbers[entry] = reply.number;
+        values[entry] = reply.value;
         let next = reply.registers;
         core = next;
         k += 1;

@@ -6,16 +6,24 @@ ghost use Rattle.rules.specs.Instructions.{addressOf};
 ghost use Rattle.rules.specs.Calls.{instruction, performed};
 ghost use Rattle.rules.proofs.Decoding.{InRange};
 ghost use Rattle.rules.proofs.Kept.{Begun};
-ghost use Rattle.monitor.specs.Ready.{came, kindPerformed};
-use crate::Reply;
+ghost use Rattle.monitor.specs.Answers.{came};
+ghost use Rattle.monitor.specs.Ready.{kindPerformed};
+ghost use Rattle.monitor.specs.Runs.{listed};
+use crate::reply::Reply;
 use crate::apply::apply;
-use crate::back::refuse;
+use crate::reply::refuse;
 use crate::find::Found;
 use crate::find::find;
 use crate::judge::judge;
 use rules::Decoded;
 use rules::Instruction;
 use rules::Registers;
+
+// A reply beside the listing position of its instruction.
+pub struct Answered {
+    pub position: usize,
+    pub reply: Reply,
+}
 
 // An instruction's address.
 fn address_of(i: Instruction) -> u32
@@ -92,7 +100,8 @@ pub fn step(
     }
 }
 
-// What four numbers at a listing position answer and do, on tables and registers that checks 1, 2 and 3 let through.
+// What four numbers at a listing position answer and do, on tables and registers that checks 1, 2 and 3 let through. The
+// answer stays beside the position, so that it is written where it belongs.
 pub fn perform(
     m: usize,
     first: &[u32],
@@ -108,17 +117,20 @@ pub fn perform(
     x: u32,
     y: u32,
     z: u32,
-) -> Reply
+) -> Answered
     requires { ⌜ Begun (state (given m first last offset marks rights grants memory) registers) ⌝ }
-    ensures { λ r. ⌜ came r (after m first last offset marks rights grants memory)
-        ≡ performed (state (before m first last offset marks rights grants memory) registers) (instruction number x y z) ⌝ }
+    ensures { λ r. ⌜ listed (r .position) (came (r .reply) (after m first last offset marks rights grants memory))
+        ≡ listed position (performed (state (before m first last offset marks rights grants memory) registers) (instruction number x y z)) ⌝ }
 {
     let decoded = rules::decode(m as u32, registers.current, position, number, x, y, z);
     match decoded {
-        Decoded::Refused(k) => refuse(k, 0, registers),
+        Decoded::Refused(k) => Answered {
+            position: position,
+            reply: refuse(k, 0, registers),
+        },
         Decoded::Kind(placed) => {
             let i = placed.instruction;
-            step(
+            let reply = step(
                 m,
                 first,
                 last,
@@ -129,7 +141,11 @@ pub fn perform(
                 memory,
                 registers,
                 i,
-            )
+            );
+            Answered {
+                position: placed.position,
+                reply: reply,
+            }
         }
     }
 }

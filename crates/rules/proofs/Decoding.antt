@@ -1,14 +1,15 @@
--- What decoding yields: a kind with its operands in their ranges, or refusal 4 or 5. Shown once over the table.
+-- What four numbers are: a kind with its operands in their ranges, or refusal 4 or 5. Shown once over the table.
 -- Assumes nothing.
 use Prim.Native.Nat.{ℕ, zero, suc, _≤_, _<_}
-use mathlib.Core.Path.{_≡_, refl, sym, ap, _∙_}
+use mathlib.Core.Path.{_≡_, refl, ap}
 use mathlib.Core.Logic.{_⊎_, inl, inr}
 use mathlib.Core.Bool.{Bool, true, false}
-use mathlib.Core.List.{List, [], _∷_, map}
+use mathlib.Core.List.{List, [], _∷_}
+use native.Mathlib.Omega.{arith}
 use lib.ListN.{getD}
 use Rattle.rules.specs.Refusals.{noSuchInstruction, badOperand}
-use Rattle.rules.specs.Instructions.{noOperands, byteOperand, divisionOperand, rightsOperand, grantOperands, sourceOperand, placed, instructionTable, decoded}
-use Rattle.rules.specs.declared.Decoded.{Decoded}
+use Rattle.rules.specs.Instructions.{noOperands, byteOperand, divisionOperand, rightsOperand, grantOperands, sourceOperand, Formed, wellFormed, illFormed, ranged, instructionTable, formed, beside}
+use Rattle.rules.specs.declared.Placed.{Placed}
 use Rattle.rules.specs.declared.Decoded.the-variants.{Kind, Refused}
 use Rattle.rules.specs.declared.Instruction.{Instruction}
 use Rattle.rules.specs.declared.Instruction.the-variants.{Load, Store, Fetch, Switch, Protect, Grant, Receive, Transfer, Invalidate, Revalidate, Exclusive}
@@ -40,40 +41,40 @@ InRange m d (Revalidate x) = Unit
 InRange m d (Exclusive x) = Unit
 
 -- a kind in its ranges, or one of the two refusals
-abbrev pub Sensible : (m d : ℕ) → Decoded → Type 0
-Sensible m d (Kind p) = InRange m d (p .instruction)
-Sensible m d (Refused n) = (n ≡ noSuchInstruction) ⊎ (n ≡ badOperand)
+abbrev pub Sensible : (m d : ℕ) → Formed → Type 0
+Sensible m d (wellFormed i) = InRange m d i
+Sensible m d (illFormed n) = (n ≡ noSuchInstruction) ⊎ (n ≡ badOperand)
 
-placed-sensible : (m d position : ℕ) (ok : Bool) (i : Instruction) → (ok ≡ true → InRange m d i) → Sensible m d (placed position ok i)
-placed-sensible m d position true i h = h refl
-placed-sensible m d position false i h = inr refl
+ranged-sensible : (m d : ℕ) (ok : Bool) (i : Instruction) → (ok ≡ true → InRange m d i) → Sensible m d (ranged ok i)
+ranged-sensible m d true i h = h refl
+ranged-sensible m d false i h = inr refl
 
 offer : (m d y z : ℕ) → grantOperands m d y z ≡ true → Offer m d y z
 offer m d y z e = record { other = grant-other m d y z e; some = grant-some m d y z e; small = grant-small m d y z e }
 
-table-sensible : (m d position x y z : ℕ) → Each (Sensible m d) (instructionTable m d position x y z)
-table-sensible m d p x y z = (
-  placed-sensible m d p (noOperands y z) (Load x) (λ e. tt),
+table-sensible : (m d x y z : ℕ) → Each (Sensible m d) (instructionTable m d x y z)
+table-sensible m d x y z = (
+  ranged-sensible m d (noOperands y z) (Load x) (λ e. tt),
   (
-    placed-sensible m d p (byteOperand y z) (Store x y) (byte-small y z),
+    ranged-sensible m d (byteOperand y z) (Store x y) (byte-small y z),
     (
-      placed-sensible m d p (noOperands y z) (Fetch x) (λ e. tt),
+      ranged-sensible m d (noOperands y z) (Fetch x) (λ e. tt),
       (
-        placed-sensible m d p (divisionOperand m y z) (Switch x y) (division-below m y z),
+        ranged-sensible m d (divisionOperand m y z) (Switch x y) (division-below m y z),
         (
-          placed-sensible m d p (rightsOperand y z) (Protect x y) (rights-small y z),
+          ranged-sensible m d (rightsOperand y z) (Protect x y) (rights-small y z),
           (
-            placed-sensible m d p (grantOperands m d y z) (Grant x y z) (offer m d y z),
+            ranged-sensible m d (grantOperands m d y z) (Grant x y z) (offer m d y z),
             (
-              placed-sensible m d p (sourceOperand m d y z) (Receive x y) (source-other m d y z),
+              ranged-sensible m d (sourceOperand m d y z) (Receive x y) (source-other m d y z),
               (
-                placed-sensible m d p (grantOperands m d y z) (Transfer x y z) (offer m d y z),
+                ranged-sensible m d (grantOperands m d y z) (Transfer x y z) (offer m d y z),
                 (
-                  placed-sensible m d p (noOperands y z) (Invalidate x) (λ e. tt),
+                  ranged-sensible m d (noOperands y z) (Invalidate x) (λ e. tt),
                   (
-                    placed-sensible m d p (noOperands y z) (Revalidate x) (λ e. tt),
+                    ranged-sensible m d (noOperands y z) (Revalidate x) (λ e. tt),
                     (
-                      placed-sensible m d p (noOperands y z) (Exclusive x) (λ e. tt),
+                      ranged-sensible m d (noOperands y z) (Exclusive x) (λ e. tt),
                       tt,
                     ),
                   ),
@@ -87,40 +88,28 @@ table-sensible m d p x y z = (
   ),
 )
 
-pub decoded-sensible : (m d position number x y z : ℕ) → Sensible m d (decoded m d position number x y z)
-unfolding decoded
-decoded-sensible m d position number x y z =
-    each-getD (Sensible m d) (instructionTable m d position x y z) number (Refused noSuchInstruction)
-    (table-sensible m d position x y z) (inl refl)
+pub formed-sensible : (m d number x y z : ℕ) → Sensible m d (formed m d number x y z)
+unfolding formed
+formed-sensible m d number x y z =
+    each-getD (Sensible m d) (instructionTable m d x y z) number (illFormed noSuchInstruction) (table-sensible m d x y z) (inl refl)
 
--- ---- the position
+-- ---- kept beside a position
 
-getD-map : {A B : Type 0} (f : A → B) (l : List A) (n : ℕ) (a : A) → f (getD l n a) ≡ getD (map f l) n (f a)
-getD-map f [] n a = refl
-getD-map f (x ∷ l) zero a = refl
-getD-map f (x ∷ l) (suc n) a = getD-map f l n a
+-- a kind that was decoded is the well-formed instruction, beside that position
+pub kind-formed : (position : ℕ) (f : Formed) (p : Placed) → beside position f ≡ Kind p
+    → (f ≡ wellFormed (p .instruction)) × (position ≡ p .position)
+kind-formed position (wellFormed i) p e =
+    let q : record { position = position; instruction = i } ≡ p = cc e in
+    (ap (λ (r : Placed). wellFormed (r .instruction)) q, ap (λ (r : Placed). r .position) q)
+kind-formed position (illFormed n) p e =
+    let z : _≡_ {A = ℕ} 0 1 = cc e in
+    absurd (omega arith)
 
--- what does not look at the position answers the same at any position
-pub decoded-anywhere : {A : Type 0} (f : Decoded → A) (m d p q number x y z : ℕ)
-    → ((ok : Bool) (i : Instruction) → f (placed p ok i) ≡ f (placed q ok i))
-    → f (decoded m d p number x y z) ≡ f (decoded m d q number x y z)
-unfolding decoded
-decoded-anywhere {A} f m d p q number x y z h =
-    getD-map f (instructionTable m d p x y z) number (Refused noSuchInstruction)
-    ∙ ap (λ (l : List A). getD l number (f (Refused noSuchInstruction))) rows
-    ∙ sym (getD-map f (instructionTable m d q x y z) number (Refused noSuchInstruction))
-  where
-    rows : map f (instructionTable m d p x y z) ≡ map f (instructionTable m d q x y z)
-    rows k =
-        h (noOperands y z) (Load x) k
-        ∷ h (byteOperand y z) (Store x y) k
-        ∷ h (noOperands y z) (Fetch x) k
-        ∷ h (divisionOperand m y z) (Switch x y) k
-        ∷ h (rightsOperand y z) (Protect x y) k
-        ∷ h (grantOperands m d y z) (Grant x y z) k
-        ∷ h (sourceOperand m d y z) (Receive x y) k
-        ∷ h (grantOperands m d y z) (Transfer x y z) k
-        ∷ h (noOperands y z) (Invalidate x) k
-        ∷ h (noOperands y z) (Revalidate x) k
-        ∷ h (noOperands y z) (Exclusive x) k
-        ∷ []
+-- and a refusal is that of numbers that are no instruction
+pub refused-formed : (position : ℕ) (f : Formed) (n : ℕ) → beside position f ≡ Refused n → f ≡ illFormed n
+refused-formed position (wellFormed i) n e =
+    let z : _≡_ {A = ℕ} 0 1 = cc e in
+    absurd (omega arith)
+refused-formed position (illFormed k) n e =
+    let q : k ≡ n = cc e in
+    ap illFormed q

@@ -10,31 +10,29 @@ use borrow.Author.Tests.{eqb-false, lt-ltb}
 use Rattle.rules.specs.Numbers.{State, L, read, write, switched}
 use Rattle.rules.specs.Sound.{soundTables}
 use Rattle.rules.specs.Refusals.{firstFailing, Outcome, refused, firstChecks, wellSized, knownDivisions}
-use Rattle.rules.specs.Instructions.{decoded, place, registersAfter, cellAt, addressOf, placed, noOperands, byteOperand, rightsOperand, grantOperands, sourceOperand}
+use Rattle.rules.specs.Instructions.{Formed, wellFormed, illFormed, ranged, formed, place, registersAfter, cellAt, addressOf, noOperands, byteOperand, rightsOperand, grantOperands, sourceOperand}
 use Rattle.rules.specs.Blocks.{blockNeeds}
-use Rattle.rules.specs.Calls.{Action, instruction, blockWrite, readView, decodedIn, kindChecks, doneAt, instructionChecks, instructionDone, blockChecks, checks, done, performed, afterAll}
+use Rattle.rules.specs.Calls.{Action, instruction, blockWrite, readView, formedIn, kindChecks, doneAt, instructionChecks, instructionDone, blockChecks, checks, done, performed, afterAll}
 use Rattle.rules.specs.declared.Registers.{Registers}
-use Rattle.rules.specs.declared.Decoded.{Decoded}
-use Rattle.rules.specs.declared.Decoded.the-variants.{Kind, Refused}
 use Rattle.rules.specs.declared.Instruction.{Instruction}
 use Rattle.rules.specs.declared.Instruction.the-variants.{Load, Store, Fetch, Switch, Protect, Grant, Receive, Transfer, Invalidate, Revalidate, Exclusive}
 use Rattle.rules.proofs.Below.{and-left, and-both}
 use Rattle.rules.proofs.Checks.{AllHold, FirstToFail, all-accept, accept-all, first-fails, answer-case, answer-number, answer-refused, answer-done}
-use Rattle.rules.proofs.Decoding.{Sensible, InRange, decoded-sensible}
+use Rattle.rules.proofs.Decoding.{Sensible, InRange, formed-sensible}
 use Rattle.rules.proofs.Order.{Ordered, checks-ordered, checks-numbered}
 use Rattle.rules.proofs.SoundCells.{AllSound, sound-all}
 use Rattle.rules.proofs.Kept.{SameShape, shape-same, shape-sized, effect-shape, Begun, begun, first-holds, covering, block-inside, effect-sound, block-shape, block-sound}
 
 -- ---- number, value, and what a refusal changes
 
-decoded-number : (s : State) (e : Decoded) → instructionDone s e .number ≡ 0
+formed-number : (s : State) (e : Formed) → instructionDone s e .number ≡ 0
 unfolding doneAt
-decoded-number s (Kind p) = refl
-decoded-number s (Refused n) = refl
+formed-number s (wellFormed i) = refl
+formed-number s (illFormed n) = refl
 
 done-number : (s : State) (a : Action) → done s a .number ≡ 0
 unfolding done
-done-number s (instruction number x y z) = decoded-number s (decodedIn s number x y z)
+done-number s (instruction number x y z) = formed-number s (formedIn s number x y z)
 done-number s (blockWrite x bytes) = refl
 done-number s (readView x n) = refl
 
@@ -78,10 +76,10 @@ by-outcome P s a f g = answer-case P s (checks s a) (done s a) (checks-numbered 
 
 -- ---- lengths
 
-decoded-shape : (s : State) (e : Decoded) → SameShape (s .lent) (instructionDone s e .after .lent)
+formed-shape : (s : State) (e : Formed) → SameShape (s .lent) (instructionDone s e .after .lent)
 unfolding doneAt
-decoded-shape s (Kind p) = effect-shape (s .lent) (s .registers .current) (cellAt (s .lent) (addressOf (p .instruction))) (p .instruction)
-decoded-shape s (Refused n) = shape-same (s .lent)
+formed-shape s (wellFormed i) = effect-shape (s .lent) (s .registers .current) (cellAt (s .lent) (addressOf i)) i
+formed-shape s (illFormed n) = shape-same (s .lent)
 
 -- what an accepted block write's checks say of the block
 block-fits : (s : State) (x : ℕ) (bytes : List ℕ) → AllHold (checks s (blockWrite x bytes))
@@ -95,7 +93,7 @@ block-fits s x bytes a =
 
 done-shape : (s : State) (a : Action) → AllHold (checks s a) → SameShape (s .lent) (done s a .after .lent)
 unfolding done
-done-shape s (instruction number x y z) h = decoded-shape s (decodedIn s number x y z)
+done-shape s (instruction number x y z) h = formed-shape s (formedIn s number x y z)
 done-shape s (blockWrite x bytes) h = block-shape (s .lent) (cellAt (s .lent) x) x bytes (block-fits s x bytes h)
 done-shape s (readView x n) h = shape-same (s .lent)
 
@@ -108,19 +106,19 @@ sizes-kept s a = shape-sized (s .lent) (performed s a .after .lent) (shape-kept 
 
 -- ---- soundness
 
-decoded-sound : (s : State) (e : Decoded) → Sensible (s .lent .M) (s .registers .current) e
+formed-sound : (s : State) (e : Formed) → Sensible (s .lent .M) (s .registers .current) e
     → AllHold (firstChecks s ++ instructionChecks s e) → AllSound (instructionDone s e .after .lent)
 unfolding doneAt kindChecks
-decoded-sound s (Kind p) h a =
-    let b = begun s (kindChecks s (p .instruction)) a in
-    effect-sound (s .lent) (s .registers .current) (cellAt (s .lent) (addressOf (p .instruction))) (p .instruction)
+formed-sound s (wellFormed i) h a =
+    let b = begun s (kindChecks s i) a in
+    effect-sound (s .lent) (s .registers .current) (cellAt (s .lent) (addressOf i)) i
     (b .sizes .within .divisions) (b .sound) (b .current) h (a .1 .1 .1 .1)
-decoded-sound s (Refused n) h a = begun s (instructionChecks s (Refused n)) a .sound
+formed-sound s (illFormed n) h a = begun s (instructionChecks s (illFormed n)) a .sound
 
 done-sound : (s : State) (a : Action) → AllHold (checks s a) → AllSound (done s a .after .lent)
 unfolding done checks
 done-sound s (instruction number x y z) h =
-    decoded-sound s (decodedIn s number x y z) (decoded-sensible (s .lent .M) (s .registers .current) 1 number x y z) h
+    formed-sound s (formedIn s number x y z) (formed-sensible (s .lent .M) (s .registers .current) number x y z) h
 done-sound s (blockWrite x bytes) h =
     block-sound (s .lent) (cellAt (s .lent) x) x bytes (block-fits s x bytes h)
     (begun s (blockChecks write s x (length bytes)) h .sound)
@@ -153,18 +151,18 @@ registers-case P m d r (Exclusive x) h a f = a
 abbrev Below : ℕ → Registers → Type 0
 Below m r = ltb (r .current) m && ltb (r .caller) m ≡ true
 
-decoded-known : (s : State) (e : Decoded) → Sensible (s .lent .M) (s .registers .current) e → Below (s .lent .M) (s .registers)
+formed-known : (s : State) (e : Formed) → Sensible (s .lent .M) (s .registers .current) e → Below (s .lent .M) (s .registers)
     → Below (s .lent .M) (instructionDone s e .after .registers)
 unfolding doneAt
-decoded-known s (Kind p) h b =
-    registers-case (Below (s .lent .M)) (s .lent .M) (s .registers .current) (s .registers) (p .instruction) h b
+formed-known s (wellFormed i) h b =
+    registers-case (Below (s .lent .M)) (s .lent .M) (s .registers .current) (s .registers) i h b
     (λ x y l. and-both _ _ (lt-ltb y (s .lent .M) l) (and-left (ltb (s .registers .current) (s .lent .M)) _ b))
-decoded-known s (Refused n) h b = b
+formed-known s (illFormed n) h b = b
 
 done-known : (s : State) (a : Action) → Below (s .lent .M) (s .registers) → Below (s .lent .M) (done s a .after .registers)
 unfolding done
 done-known s (instruction number x y z) b =
-    decoded-known s (decodedIn s number x y z) (decoded-sensible (s .lent .M) (s .registers .current) 1 number x y z) b
+    formed-known s (formedIn s number x y z) (formed-sensible (s .lent .M) (s .registers .current) number x y z) b
 done-known s (blockWrite x bytes) b = b
 done-known s (readView x n) b = b
 
@@ -181,40 +179,40 @@ isSwitch (instruction number x y z) = eqb number 3
 isSwitch (blockWrite x bytes) = false
 isSwitch (readView x n) = false
 
--- what is decoded leaves the registers alone
-abbrev Steady : Decoded → Type 0
-Steady (Kind p) = (r : Registers) → registersAfter r (p .instruction) ≡ r
-Steady (Refused n) = Unit
+-- what the numbers are leaves the registers alone
+abbrev Steady : Formed → Type 0
+Steady (wellFormed i) = (r : Registers) → registersAfter r i ≡ r
+Steady (illFormed n) = Unit
 
-placed-steady : (p : ℕ) (ok : Bool) (i : Instruction) → ((r : Registers) → registersAfter r i ≡ r) → Steady (placed p ok i)
-placed-steady p true i h = h
-placed-steady p false i h = tt
+ranged-steady : (ok : Bool) (i : Instruction) → ((r : Registers) → registersAfter r i ≡ r) → Steady (ranged ok i)
+ranged-steady true i h = h
+ranged-steady false i h = tt
 
-decoded-steady : (m d p number x y z : ℕ) → (number ≡ 3 → ⊥) → Steady (decoded m d p number x y z)
-unfolding decoded registersAfter
-decoded-steady m d p zero x y z h = placed-steady p (noOperands y z) (Load x) (λ r. refl)
-decoded-steady m d p (suc zero) x y z h = placed-steady p (byteOperand y z) (Store x y) (λ r. refl)
-decoded-steady m d p (suc (suc zero)) x y z h = placed-steady p (noOperands y z) (Fetch x) (λ r. refl)
-decoded-steady m d p (suc (suc (suc zero))) x y z h = absurd (h refl)
-decoded-steady m d p (suc (suc (suc (suc zero)))) x y z h = placed-steady p (rightsOperand y z) (Protect x y) (λ r. refl)
-decoded-steady m d p (suc (suc (suc (suc (suc zero))))) x y z h = placed-steady p (grantOperands m d y z) (Grant x y z) (λ r. refl)
-decoded-steady m d p (suc (suc (suc (suc (suc (suc zero)))))) x y z h = placed-steady p (sourceOperand m d y z) (Receive x y) (λ r. refl)
-decoded-steady m d p (suc (suc (suc (suc (suc (suc (suc zero))))))) x y z h = placed-steady p (grantOperands m d y z) (Transfer x y z) (λ r. refl)
-decoded-steady m d p (suc (suc (suc (suc (suc (suc (suc (suc zero)))))))) x y z h = placed-steady p (noOperands y z) (Invalidate x) (λ r. refl)
-decoded-steady m d p (suc (suc (suc (suc (suc (suc (suc (suc (suc zero))))))))) x y z h = placed-steady p (noOperands y z) (Revalidate x) (λ r. refl)
-decoded-steady m d p (suc (suc (suc (suc (suc (suc (suc (suc (suc (suc zero)))))))))) x y z h = placed-steady p (noOperands y z) (Exclusive x) (λ r. refl)
-decoded-steady m d p (suc (suc (suc (suc (suc (suc (suc (suc (suc (suc (suc n))))))))))) x y z h = tt
+formed-steady : (m d number x y z : ℕ) → (number ≡ 3 → ⊥) → Steady (formed m d number x y z)
+unfolding formed registersAfter
+formed-steady m d zero x y z h = ranged-steady (noOperands y z) (Load x) (λ r. refl)
+formed-steady m d (suc zero) x y z h = ranged-steady (byteOperand y z) (Store x y) (λ r. refl)
+formed-steady m d (suc (suc zero)) x y z h = ranged-steady (noOperands y z) (Fetch x) (λ r. refl)
+formed-steady m d (suc (suc (suc zero))) x y z h = absurd (h refl)
+formed-steady m d (suc (suc (suc (suc zero)))) x y z h = ranged-steady (rightsOperand y z) (Protect x y) (λ r. refl)
+formed-steady m d (suc (suc (suc (suc (suc zero))))) x y z h = ranged-steady (grantOperands m d y z) (Grant x y z) (λ r. refl)
+formed-steady m d (suc (suc (suc (suc (suc (suc zero)))))) x y z h = ranged-steady (sourceOperand m d y z) (Receive x y) (λ r. refl)
+formed-steady m d (suc (suc (suc (suc (suc (suc (suc zero))))))) x y z h = ranged-steady (grantOperands m d y z) (Transfer x y z) (λ r. refl)
+formed-steady m d (suc (suc (suc (suc (suc (suc (suc (suc zero)))))))) x y z h = ranged-steady (noOperands y z) (Invalidate x) (λ r. refl)
+formed-steady m d (suc (suc (suc (suc (suc (suc (suc (suc (suc zero))))))))) x y z h = ranged-steady (noOperands y z) (Revalidate x) (λ r. refl)
+formed-steady m d (suc (suc (suc (suc (suc (suc (suc (suc (suc (suc zero)))))))))) x y z h = ranged-steady (noOperands y z) (Exclusive x) (λ r. refl)
+formed-steady m d (suc (suc (suc (suc (suc (suc (suc (suc (suc (suc (suc n))))))))))) x y z h = tt
 
-steady-same : (s : State) (e : Decoded) → Steady e → instructionDone s e .after .registers ≡ s .registers
+steady-same : (s : State) (e : Formed) → Steady e → instructionDone s e .after .registers ≡ s .registers
 unfolding doneAt
-steady-same s (Kind p) h = h (s .registers)
-steady-same s (Refused n) h = refl
+steady-same s (wellFormed i) h = h (s .registers)
+steady-same s (illFormed n) h = refl
 
 done-registers : (s : State) (a : Action) → isSwitch a ≡ false → done s a .after .registers ≡ s .registers
 unfolding done
 done-registers s (instruction number x y z) e =
-    steady-same s (decodedIn s number x y z)
-    (decoded-steady (s .lent .M) (s .registers .current) 1 number x y z (eqb-false number 3 e))
+    steady-same s (formedIn s number x y z)
+    (formed-steady (s .lent .M) (s .registers .current) number x y z (eqb-false number 3 e))
 done-registers s (blockWrite x bytes) e = refl
 done-registers s (readView x n) e = refl
 

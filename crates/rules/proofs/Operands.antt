@@ -7,7 +7,7 @@ use lib.ListN.{List·getD-eq-default}
 use lib.Dec.{leb, ltb, eqb}
 use borrow.Author.Tests.{leb-true, ltb-true, ltb-false, eqb-false, not-true}
 use Rattle.rules.specs.Refusals.{noSuchInstruction}
-use Rattle.rules.specs.Instructions.{byteOperand, divisionOperand, rightsOperand, grantOperands, sourceOperand, placed, instructionTable, decoded}
+use Rattle.rules.specs.Instructions.{byteOperand, divisionOperand, rightsOperand, grantOperands, sourceOperand, illFormed, ranged, instructionTable, formed, beside, decoded}
 use Rattle.rules.specs.declared.Decoded.the-variants.{Kind, Refused}
 use Rattle.rules.specs.declared.Instruction.{Instruction}
 use Rattle.rules.proofs.Below.{and-left, and-right}
@@ -59,16 +59,16 @@ source-other m d y z e = other m d y (and-left (ltb y m && not (eqb y d)) _ e)
 
 -- an operand that is kept only in its range may be cut to a byte first
 pub cut-kept : (position : ℕ) (ok : Bool) (kind : ℕ → Instruction) (y : ℕ) → (ok ≡ true → y ≤ 255)
-    → placed position ok (kind (y % 256)) ≡ placed position ok (kind y)
+    → beside position (ranged ok (kind (y % 256))) ≡ beside position (ranged ok (kind y))
 cut-kept position true kind y h =
     let e : y % 256 ≡ y = omega (arith, h refl) in
     ap (λ (v : ℕ). Kind (record { position = position; instruction = kind v })) e
 cut-kept position false kind y h = refl
 
 pub past-table : (m d position number x y z : ℕ) → 11 ≤ number → Refused noSuchInstruction ≡ decoded m d position number x y z
-unfolding decoded
+unfolding formed
 past-table m d position number x y z h =
-    sym (List·getD-eq-default (instructionTable m d position x y z) (Refused noSuchInstruction) h)
+    ap (beside position) (sym (List·getD-eq-default (instructionTable m d x y z) (illFormed noSuchInstruction) h))
 
 -- a number from k on that is not k
 pub above : (k n : ℕ) → k ≤ n → (n ≡ k → ⊥) → k < n

@@ -9,15 +9,13 @@ use lib.Dec.{eqb}
 use borrow.Author.Tests.{eqb-true}
 use Rattle.rules.specs.Numbers.{State}
 use Rattle.rules.specs.Refusals.{refusalList, Check, firstChecks}
-use Rattle.rules.specs.Instructions.{needs}
+use Rattle.rules.specs.Instructions.{Formed, wellFormed, illFormed, needs}
 use Rattle.rules.specs.Blocks.{blockNeeds}
-use Rattle.rules.specs.Calls.{Action, instruction, blockWrite, readView, decodedIn, kindChecks, instructionChecks, checks}
-use Rattle.rules.specs.declared.Decoded.{Decoded}
-use Rattle.rules.specs.declared.Decoded.the-variants.{Kind, Refused}
+use Rattle.rules.specs.Calls.{Action, instruction, blockWrite, readView, formedIn, kindChecks, instructionChecks, checks}
 use Rattle.rules.specs.declared.Instruction.{Instruction}
 use Rattle.rules.specs.declared.Instruction.the-variants.{Load, Store, Fetch, Switch, Protect, Grant, Receive, Transfer, Invalidate, Revalidate, Exclusive}
 use Rattle.rules.proofs.Checks.{Each, Numbered}
-use Rattle.rules.proofs.Decoding.{Sensible, decoded-sensible}
+use Rattle.rules.proofs.Decoding.{Sensible, formed-sensible}
 
 -- whether the first list's numbers stand in the second, in its order
 unfoldable pub inOrder : List ℕ → List ℕ → Bool
@@ -45,19 +43,19 @@ kind-ordered s (Invalidate x) = refl
 kind-ordered s (Revalidate x) = refl
 kind-ordered s (Exclusive x) = refl
 
-decoded-ordered : (s : State) (m d : ℕ) (e : Decoded) → Sensible m d e → Ordered (firstChecks s ++ instructionChecks s e)
+formed-ordered : (s : State) (m d : ℕ) (e : Formed) → Sensible m d e → Ordered (firstChecks s ++ instructionChecks s e)
 unfolding inOrder
-decoded-ordered s m d (Kind p) h = kind-ordered s (p .instruction)
-decoded-ordered s m d (Refused n) (inl q) = rw q
-decoded-ordered s m d (Refused n) (inr q) = rw q
+formed-ordered s m d (wellFormed i) h = kind-ordered s i
+formed-ordered s m d (illFormed n) (inl q) = rw q
+formed-ordered s m d (illFormed n) (inr q) = rw q
 
 -- ---- of any call
 
 pub checks-ordered : (s : State) (a : Action) → Ordered (checks s a)
 unfolding checks blockNeeds inOrder
 checks-ordered s (instruction number x y z) =
-    decoded-ordered s (s .lent .M) (s .registers .current) (decodedIn s number x y z)
-    (decoded-sensible (s .lent .M) (s .registers .current) 1 number x y z)
+    formed-ordered s (s .lent .M) (s .registers .current) (formedIn s number x y z)
+    (formed-sensible (s .lent .M) (s .registers .current) number x y z)
 checks-ordered s (blockWrite x bytes) = refl
 checks-ordered s (readView x n) = refl
 

@@ -7,7 +7,7 @@ use lib.ListN.{length}
 use borrow.Author.Tests.{ne-eqb}
 use Rattle.rules.specs.Numbers.{State, read, write}
 use Rattle.rules.specs.Refusals.{Check, firstFailing, Outcome, refused, answered, firstChecks}
-use Rattle.rules.specs.Calls.{Action, instruction, blockWrite, readView, decodedIn, instructionChecks, blockChecks, checks, done, performed}
+use Rattle.rules.specs.Calls.{Action, instruction, blockWrite, readView, formedIn, instructionChecks, blockChecks, checks, done, performed}
 use Rattle.rules.proofs.Checks.{AllHold}
 
 -- ---- a list of checks made in two parts
@@ -31,7 +31,7 @@ second-part (c ∷ l) k a = rw (a .0) (second-part l k (a .1))
 
 -- from 4 on for an instruction, from 6 on for a block or a view
 abbrev pub ownChecks : State → Action → List Check
-ownChecks s (instruction number x y z) = instructionChecks s (decodedIn s number x y z)
+ownChecks s (instruction number x y z) = instructionChecks s (formedIn s number x y z)
 ownChecks s (blockWrite x bytes) = blockChecks write s x (length bytes)
 ownChecks s (readView x n) = blockChecks read s x n
 

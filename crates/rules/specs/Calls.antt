@@ -5,11 +5,9 @@ use mathlib.Core.Bool.{false}
 use lib.ListN.{length}
 use Rattle.rules.specs.Numbers.{State, state, read, write}
 use Rattle.rules.specs.Refusals.{notCovered, Check, _unless_, Outcome, accepted, answered, firstChecks}
-use Rattle.rules.specs.Instructions.{decoded, addressOf, covered, cellAt, needs, effect, registersAfter, valueOf}
+use Rattle.rules.specs.Instructions.{Formed, wellFormed, illFormed, formed, addressOf, covered, cellAt, needs, effect, registersAfter, valueOf}
 use Rattle.rules.specs.Blocks.{blockNeeds, blockWritten, partViewed}
 use Rattle.rules.specs.declared.Instruction.{Instruction}
-use Rattle.rules.specs.declared.Decoded.{Decoded}
-use Rattle.rules.specs.declared.Decoded.the-variants.{Kind, Refused}
 
 -- the calls: an instruction given as four numbers, a block write, a read view
 pub data Action : Type 0 where
@@ -17,9 +15,9 @@ pub data Action : Type 0 where
   blockWrite : (x : ℕ) (bytes : List ℕ) → Action
   readView : (x n : ℕ) → Action
 
--- the instruction that four numbers stand for; a single call's stands at position 1
-abbrev pub decodedIn : State → (number x y z : ℕ) → Decoded
-decodedIn s number x y z = decoded (s .lent .M) (s .registers .current) 1 number x y z
+-- what four numbers are in a state
+abbrev pub formedIn : State → (number x y z : ℕ) → Formed
+formedIn s number x y z = formed (s .lent .M) (s .registers .current) number x y z
 
 -- the checks on a well-formed instruction, from 6 on
 unfoldable pub kindChecks : State → Instruction → List Check
@@ -28,9 +26,9 @@ kindChecks s i =
     ∷ needs (s .lent) (s .registers .current) (cellAt (s .lent) (addressOf i)) i
 
 -- the checks on four numbers, from 4 on
-abbrev pub instructionChecks : State → Decoded → List Check
-instructionChecks s (Refused n) = n unless false ∷ []
-instructionChecks s (Kind p) = kindChecks s (p .instruction)
+abbrev pub instructionChecks : State → Formed → List Check
+instructionChecks s (illFormed n) = n unless false ∷ []
+instructionChecks s (wellFormed i) = kindChecks s i
 
 -- the checks on a block of n bytes at x from 6 on
 abbrev pub blockChecks : (right : ℕ) → State → (x n : ℕ) → List Check
@@ -40,7 +38,7 @@ blockChecks right s x n =
 
 -- all checks on a call, in their order
 unfoldable pub checks : State → Action → List Check
-checks s (instruction number x y z) = firstChecks s ++ instructionChecks s (decodedIn s number x y z)
+checks s (instruction number x y z) = firstChecks s ++ instructionChecks s (formedIn s number x y z)
 checks s (blockWrite x bytes) = firstChecks s ++ blockChecks write s x (length bytes)
 checks s (readView x n) = firstChecks s ++ blockChecks read s x n
 
@@ -56,13 +54,13 @@ abbrev pub kindDone : State → Instruction → Outcome
 kindDone s i = doneAt s (cellAt (s .lent) (addressOf i)) i
 
 -- four numbers that are no instruction have nothing to do
-abbrev pub instructionDone : State → Decoded → Outcome
-instructionDone s (Refused n) = accepted 0 [] s
-instructionDone s (Kind p) = kindDone s (p .instruction)
+abbrev pub instructionDone : State → Formed → Outcome
+instructionDone s (illFormed n) = accepted 0 [] s
+instructionDone s (wellFormed i) = kindDone s i
 
 -- what a call does if all its checks hold
 unfoldable pub done : State → Action → Outcome
-done s (instruction number x y z) = instructionDone s (decodedIn s number x y z)
+done s (instruction number x y z) = instructionDone s (formedIn s number x y z)
 done s (blockWrite x bytes) =
     accepted 0 [] (state (blockWritten (s .lent) (cellAt (s .lent) x) x bytes) (s .registers))
 done s (readView x n) = accepted 0 (partViewed (s .lent) (cellAt (s .lent) x) x n) s

@@ -34,29 +34,41 @@ grantOperands m d y z = ltb y m && not (eqb y d) && leb 1 z && leb z 7
 unfoldable pub sourceOperand : (m d y z : ℕ) → Bool
 sourceOperand m d y z = ltb y m && not (eqb y d) && eqb z 0
 
--- an instruction in its operands' ranges, kept beside its listing position; else refusal 5
-abbrev pub placed : (position : ℕ) → Bool → Instruction → Decoded
-placed position inRange i =
-    cond inRange (Kind (record { position = position; instruction = i })) (Refused badOperand)
+-- what four numbers are: a well-formed instruction, one of the eleven kinds with its operands; or refusal 4 or 5
+pub data Formed : Type 0 where
+  wellFormed : Instruction → Formed
+  illFormed : (refusal : ℕ) → Formed
+
+-- an instruction in its operands' ranges; else refusal 5
+abbrev pub ranged : Bool → Instruction → Formed
+ranged inRange i = cond inRange (wellFormed i) (illFormed badOperand)
 
 -- the eleven instruction numbers, 0 to 10; d is the current division
-abbrev pub instructionTable : (m d position x y z : ℕ) → List Decoded
-instructionTable m d position x y z =
-    placed position (noOperands y z) (Load x)
-    ∷ placed position (byteOperand y z) (Store x y)
-    ∷ placed position (noOperands y z) (Fetch x)
-    ∷ placed position (divisionOperand m y z) (Switch x y)
-    ∷ placed position (rightsOperand y z) (Protect x y)
-    ∷ placed position (grantOperands m d y z) (Grant x y z)
-    ∷ placed position (sourceOperand m d y z) (Receive x y)
-    ∷ placed position (grantOperands m d y z) (Transfer x y z)
-    ∷ placed position (noOperands y z) (Invalidate x)
-    ∷ placed position (noOperands y z) (Revalidate x)
-    ∷ placed position (noOperands y z) (Exclusive x)
+abbrev pub instructionTable : (m d x y z : ℕ) → List Formed
+instructionTable m d x y z =
+    ranged (noOperands y z) (Load x)
+    ∷ ranged (byteOperand y z) (Store x y)
+    ∷ ranged (noOperands y z) (Fetch x)
+    ∷ ranged (divisionOperand m y z) (Switch x y)
+    ∷ ranged (rightsOperand y z) (Protect x y)
+    ∷ ranged (grantOperands m d y z) (Grant x y z)
+    ∷ ranged (sourceOperand m d y z) (Receive x y)
+    ∷ ranged (grantOperands m d y z) (Transfer x y z)
+    ∷ ranged (noOperands y z) (Invalidate x)
+    ∷ ranged (noOperands y z) (Revalidate x)
+    ∷ ranged (noOperands y z) (Exclusive x)
     ∷ []
 
-unfoldable pub decoded : (m d position number x y z : ℕ) → Decoded
-decoded m d position number x y z = getD (instructionTable m d position x y z) number (Refused noSuchInstruction)
+unfoldable pub formed : (m d number x y z : ℕ) → Formed
+formed m d number x y z = getD (instructionTable m d x y z) number (illFormed noSuchInstruction)
+
+-- a well-formed instruction is kept beside its listing position
+abbrev pub beside : (position : ℕ) → Formed → Decoded
+beside position (wellFormed i) = Kind (record { position = position; instruction = i })
+beside position (illFormed n) = Refused n
+
+abbrev pub decoded : (m d position number x y z : ℕ) → Decoded
+decoded m d position number x y z = beside position (formed m d number x y z)
 
 abbrev pub addressOf : Instruction → ℕ
 addressOf (Load x) = x

@@ -3,7 +3,7 @@
 ghost use mathlib.Core.Path.{_≡_};
 ghost use Prim.Native.Nat.{_%_};
 ghost use Rattle.rules.specs.Numbers.{partOf, larger, join, switched};
-ghost use Rattle.rules.specs.Instructions.{noOperands, byteOperand, divisionOperand, rightsOperand, grantOperands, sourceOperand, placed, decoded};
+ghost use Rattle.rules.specs.Instructions.{noOperands, byteOperand, divisionOperand, rightsOperand, grantOperands, sourceOperand, ranged, beside, decoded};
 
 // ---- the numbers of the refusal list
 
@@ -194,7 +194,7 @@ fn low_byte(x: u32) -> u8
 
 // An instruction kept beside its position if its operands are in their ranges, else refusal 5.
 fn keep(at: usize, in_range: bool, instruction: Instruction) -> Decoded
-    ensures { λ r. ⌜ r ≡ placed at «in_range» instruction ⌝ }
+    ensures { λ r. ⌜ r ≡ beside at (ranged «in_range» instruction) ⌝ }
 {
     if in_range {
         Decoded::Kind(Placed {

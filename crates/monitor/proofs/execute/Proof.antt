@@ -1,32 +1,32 @@
--- Checks 1, 2 and 3, and then the four numbers: each return is one law of `Beginning`, or what `perform` says.
+-- A list of one: the return is one law of `Running`.
 use borrow.Author.Needs.{needs}
 use Rattle.rules.specs.Numbers.{State, state}
-use Rattle.rules.specs.Lent.{given}
-use Rattle.rules.specs.Calls.{instruction}
-use Rattle.monitor.proofs.Beginning.{first-begun, first-refuse}
+use Rattle.rules.specs.Lent.{lentOf}
+use Rattle.monitor.proofs.Running.{ran-one}
 use Rattle.monitor.proofs.execute.Statement.{statement}
 use Rattle.monitor.proofs.execute.Tie as tie
-
--- the function's entry, from where checks 1, 2 and 3 have answered
-abbrev start : tie.After-begin → tie.Start
-start c = c .before .before .before .before .before .before .before .before .before .before .before .before
+use Rattle.monitor.proofs.execute.Lts as lts
 
 abbrev st : tie.Start → State
-st c =
-    state
-    (given (c .args .m) (c .args .first) (c .args .last) (c .args .offset) (c .args .marks) (c .args .rights) (c .args .grants) (c .args .memory))
-    (c .args .registers)
+st c = state (lentOf (lts.dens _ _ _ _ (c .args))) (c .args .registers)
 
-begin-requires : tie.Need-begin-requires
-begin-requires c κs = search needs
+slice-aggregate-execute-all : tie.Need-slice-aggregate-execute-all
+slice-aggregate-execute-all c = search needs
 
-perform-requires : tie.Need-perform-requires
-perform-requires c κs =
-    let begun = c .before .before .before .before in
-    first-begun (st (start (begun .before))) _ (begun .before .begin .ensures) (begun .if1 .taken)
+slice-aggregate-execute-all-2 : tie.Need-slice-aggregate-execute-all-2
+slice-aggregate-execute-all-2 c = search needs
 
-refuse-requires : tie.Need-refuse-requires
-refuse-requires c κs = search needs
+slice-aggregate-execute-all-3 : tie.Need-slice-aggregate-execute-all-3
+slice-aggregate-execute-all-3 c = search needs
+
+execute-all-requires : tie.Need-execute-all-requires
+execute-all-requires c κs = search needs
+
+array-read-t34 : tie.Need-array-read-t34
+array-read-t34 c = search needs
+
+array-read-t37 : tie.Need-array-read-t37
+array-read-t37 c = search needs
 
 same-length : tie.Need-same-length
 same-length c = search needs
@@ -41,41 +41,23 @@ same-length-4 : tie.Need-same-length-4
 same-length-4 c = search needs
 
 returns : tie.Need-returns
-returns c = c .before .before .before .before .before .before .before .before .perform .ensures
-
-same-length-5 : tie.Need-same-length-5
-same-length-5 c = search needs
-
-same-length-6 : tie.Need-same-length-6
-same-length-6 c = search needs
-
-same-length-7 : tie.Need-same-length-7
-same-length-7 c = search needs
-
-same-length-8 : tie.Need-same-length-8
-same-length-8 c = search needs
-
-returns-2 : tie.Need-returns-2
-returns-2 c =
-    let s = start (c .before .before) in
-    rw (c .refuse .ensures)
-    (first-refuse (st s) _ (c .before .before .begin .ensures)
-    (instruction (s .args .number) (s .args .x) (s .args .y) (s .args .z)) (c .before .if1 .left))
+returns c =
+    let ran : tie.After-execute-all = search in
+    let s : tie.Start = search in
+    ran-one (st s) (s .args .number) (s .args .x) (s .args .y) (s .args .z) _ _ _ _ (ran .execute-all .ensures)
 
 pub execute-spec : {M : Type 1} → statement M
 execute-spec =
     tie.close
     (tie.spec
-    begin-requires
-    perform-requires
-    refuse-requires
+    slice-aggregate-execute-all
+    slice-aggregate-execute-all-2
+    slice-aggregate-execute-all-3
+    execute-all-requires
+    array-read-t34
+    array-read-t37
     same-length
     same-length-2
     same-length-3
     same-length-4
-    returns
-    same-length-5
-    same-length-6
-    same-length-7
-    same-length-8
-    returns-2)
+    returns)

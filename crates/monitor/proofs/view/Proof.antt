@@ -1,34 +1,27 @@
-use Prim.Native.Nat.{ℕ}
-use mathlib.Core.Path.{ap}
-use mathlib.Core.List.{List}
 use native.Mathlib.Omega.{arith}
 use borrow.Author.Needs.{needs}
 use Rattle.rules.specs.Numbers.{State, state, read}
-use Rattle.rules.specs.Lent.{given}
-use Rattle.rules.specs.Refusals.{Outcome}
-use Rattle.monitor.proofs.Locating.{BlockAt, view-refuse, block-at, read-view}
+use Rattle.rules.specs.Lent.{partOfLent, lentOf}
+use Rattle.monitor.proofs.Locating.{BlockAt, block-at, view-refuse, read-view, viewed-refused, viewed-at}
 use Rattle.monitor.proofs.view.Statement.{statement}
 use Rattle.monitor.proofs.view.Tie as tie
+use Rattle.monitor.proofs.view.Lts as lts
 
 abbrev st : tie.Start → State
-st c =
-    state
-    (given (c .args .m) (c .args .first) (c .args .last) (c .args .offset) (c .args .marks) (c .args .rights) (c .args .grants) (c .args .memory))
-    (c .args .registers)
-
-abbrev part : Outcome → List ℕ
-part o = o .part
+st c = state (lentOf (lts.dens _ _ _ _ (c .args))) (c .args .registers)
 
 abbrev start : tie.After-place-block → tie.Start
-start c = c .before .before .before .before .before .before .before .before
+start c = search
 
 -- where a place was told
+abbrev told : tie.After-located → tie.After-place-block
+told c = search
+
 block : (c : tie.After-located)
-    → BlockAt read (st (start (c .before .before))) (start (c .before .before) .args .x) (start (c .before .before) .args .n) (c .located .given .0 .0)
+    → BlockAt read (st (start (told c))) (start (told c) .args .x) (start (told c) .args .n) (c .located .given .0 .0)
 block c =
-    let told = c .before .before in
-    let a = start told .args in
-    block-at read (st (start told)) (a .x) (a .n) _ (told .place-block .ensures) _ (c .located .given .1)
+    let a = start (told c) .args in
+    block-at read (st (start (told c))) (a .x) (a .n) _ (told c .place-block .ensures) _ (c .located .given .1)
 
 place-block-requires : tie.Need-place-block-requires
 place-block-requires c κs = search needs
@@ -49,7 +42,9 @@ enum-known-located : tie.Need-enum-known-located
 enum-known-located c = search needs
 
 add-end : tie.Need-add-end
-add-end c = omega (arith, block (c .before) .inside, block (c .before) .few)
+add-end c =
+    let located : tie.After-located = search in
+    omega (arith, block located .inside, block located .few)
 
 sub-result-2 : tie.Need-sub-result-2
 sub-result-2 c = search needs
@@ -58,16 +53,25 @@ part-result-start-2 : tie.Need-part-result-start-2
 part-result-start-2 c = search needs
 
 part-result-end-2 : tie.Need-part-result-end-2
-part-result-end-2 c = block (c .before) .inside
+part-result-end-2 c =
+    let located : tie.After-located = search in
+    block located .inside
 
 returns : tie.Need-returns
 returns c =
-    let told = c .before .before .before in
-    let a = start told .args in
-    ap part (view-refuse (st (start told)) (a .x) (a .n) _ _ (told .place-block .ensures) (c .before .enum-told .given .1))
+    let told : tie.After-place-block = search in
+    let refused : tie.After-enum-told = search in
+    let s = start told in
+    let a = s .args in
+    let e = viewed-refused (st s) (a .x) (a .n) _ _ (told .place-block .ensures) (refused .enum-told .given .1) in
+    let f = view-refuse (st s) (a .x) (a .n) _ _ (told .place-block .ensures) (refused .enum-told .given .1) in
+    λ i. partOfLent (a .memory) (e i .start) (f i .part)
 
 returns-2 : tie.Need-returns-2
-returns-2 c = ap part (read-view (block (c .before .before)))
+returns-2 c =
+    let located : tie.After-located = search in
+    let a = start (told located) .args in
+    λ i. partOfLent (a .memory) (viewed-at (block located) i .start) (read-view (block located) i .part)
 
 pub view-spec : {M : Type 1} → statement M
 view-spec =

@@ -2,7 +2,7 @@ use mathlib.Core.Path.{ap}
 use borrow.Author.Needs.{needs}
 use Rattle.rules.specs.Numbers.{State, state, read}
 use Rattle.rules.specs.Lent.{given}
-use Rattle.monitor.specs.Ready.{answerIn}
+use Rattle.monitor.specs.Answers.{answerIn}
 use Rattle.monitor.proofs.Locating.{view-refuse, block-at, read-view}
 use Rattle.monitor.proofs.view_answer.Statement.{statement}
 use Rattle.monitor.proofs.view_answer.Tie as tie

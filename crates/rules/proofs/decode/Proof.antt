@@ -1,5 +1,5 @@
 use borrow.Author.Needs.{needs}
-use Rattle.rules.specs.Instructions.{byteOperand, rightsOperand, grantOperands, decoded}
+use Rattle.rules.specs.Instructions.{byteOperand, rightsOperand, grantOperands, formed}
 use Rattle.rules.specs.declared.Instruction.the-variants.{Store, Protect, Grant, Transfer}
 use Rattle.rules.proofs.Operands.{byte-small, rights-small, grant-small, cut-kept, past-table, above}
 use native.Mathlib.Omega.{arith}
@@ -112,12 +112,12 @@ keep-requires-11 c κs = search needs
 
 -- src/lib.rt:178:1
 returns : tie.Need-returns
-unfolding decoded
+unfolding formed
 returns c = rw (c .before .before .match .keys1, c .keep .ensures, c .before .no-operands .ensures)
 
 -- src/lib.rt:178:1
 returns-2 : tie.Need-returns-2
-unfolding decoded
+unfolding formed
 returns-2 c =
     let a = c .before .before .before .before .args in
     rw (c .before .before .before .match .keys2, c .keep2 .ensures, c .before .low-byte .ensures, c .before .before .byte-operand .ensures)
@@ -125,17 +125,17 @@ returns-2 c =
 
 -- src/lib.rt:178:1
 returns-3 : tie.Need-returns-3
-unfolding decoded
+unfolding formed
 returns-3 c = rw (c .before .before .match .keys3, c .keep3 .ensures, c .before .no-operands2 .ensures)
 
 -- src/lib.rt:178:1
 returns-4 : tie.Need-returns-4
-unfolding decoded
+unfolding formed
 returns-4 c = rw (c .before .before .match .keys4, c .keep4 .ensures, c .before .division-operand .ensures)
 
 -- src/lib.rt:178:1
 returns-5 : tie.Need-returns-5
-unfolding decoded
+unfolding formed
 returns-5 c =
     let a = c .before .before .before .before .args in
     rw (c .before .before .before .match .keys5, c .keep5 .ensures, c .before .low-byte2 .ensures, c .before .before .rights-operand .ensures)
@@ -143,7 +143,7 @@ returns-5 c =
 
 -- src/lib.rt:178:1
 returns-6 : tie.Need-returns-6
-unfolding decoded
+unfolding formed
 returns-6 c =
     let a = c .before .before .before .before .args in
     rw (c .before .before .before .match .keys6, c .keep6 .ensures, c .before .low-byte3 .ensures, c .before .before .grant-operands .ensures)
@@ -151,12 +151,12 @@ returns-6 c =
 
 -- src/lib.rt:178:1
 returns-7 : tie.Need-returns-7
-unfolding decoded
+unfolding formed
 returns-7 c = rw (c .before .before .match .keys7, c .keep7 .ensures, c .before .source-operand .ensures)
 
 -- src/lib.rt:178:1
 returns-8 : tie.Need-returns-8
-unfolding decoded
+unfolding formed
 returns-8 c =
     let a = c .before .before .before .before .args in
     rw (c .before .before .before .match .keys8, c .keep8 .ensures, c .before .low-byte4 .ensures, c .before .before .grant-operands2 .ensures)
@@ -164,22 +164,22 @@ returns-8 c =
 
 -- src/lib.rt:178:1
 returns-9 : tie.Need-returns-9
-unfolding decoded
+unfolding formed
 returns-9 c = rw (c .before .before .match .keys9, c .keep9 .ensures, c .before .no-operands3 .ensures)
 
 -- src/lib.rt:178:1
 returns-10 : tie.Need-returns-10
-unfolding decoded
+unfolding formed
 returns-10 c = rw (c .before .before .match .keys10, c .keep10 .ensures, c .before .no-operands4 .ensures)
 
 -- src/lib.rt:178:1
 returns-11 : tie.Need-returns-11
-unfolding decoded
+unfolding formed
 returns-11 c = rw (c .before .before .match .keys11, c .keep11 .ensures, c .before .no-operands5 .ensures)
 
 -- src/lib.rt:178:1
 returns-12 : tie.Need-returns-12
-unfolding decoded
+unfolding formed
 returns-12 c =
     let a = c .before .args in
     let r = c .match .rest in

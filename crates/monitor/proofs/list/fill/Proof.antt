@@ -4,7 +4,7 @@ use mathlib.Core.Path.{_≡_, refl, ap, _∙_}
 use mathlib.Core.List.{List}
 use native.Mathlib.Omega.{arith}
 use lib.ListN.{length, set, length-set}
-use Rattle.monitor.specs.Runs.{filled}
+use Rattle.monitor.specs.Leaves.{filled}
 use Rattle.monitor.proofs.Running.{filled-more}
 use borrow.Author.Needs.{needs}
 use Rattle.monitor.proofs.list.fill.Statement.{statement}

@@ -2,10 +2,9 @@
 use Prim.Native.Nat.{_-_, _≤_}
 use mathlib.Core.Path.{_≡_}
 use native.Mathlib.Omega.{arith}
-use Rattle.rules.specs.Numbers.{State, tables, state}
-use Rattle.rules.specs.Lent.{given}
-use Rattle.monitor.specs.Ready.{came}
-use Rattle.monitor.proofs.Running.{Turn, turn-first, turn-next, turns-ran}
+use Rattle.rules.specs.Numbers.{tables, state}
+use Rattle.monitor.specs.Answers.{came}
+use Rattle.monitor.proofs.Running.{Turn, turn-first, position-told, position-entry, turn-next, turns-ran}
 use borrow.Author.Needs.{needs}
 use Rattle.monitor.proofs.list.run_list.Statement.{statement}
 use Rattle.monitor.proofs.list.run_list.Tie as tie
@@ -20,24 +19,21 @@ abbrev μ-loop : tie.MeasureT-loop
 μ-loop m first last offset marks₀ rights₀ grants₀ memory₀ instructions count numbers₀ values₀ core₀ k₀ marks rights grants memory numbers values core k =
     count - k
 
-abbrev start : tie.After-slice-known6 Inv-loop μ-loop → tie.Start Inv-loop μ-loop
-start c = c .before .before .before .before .before .before .before .before .before .before
-
-abbrev st : tie.Start Inv-loop μ-loop → State
-st c =
-    state
-    (given (c .args .m) (c .args .first) (c .args .last) (c .args .offset) (c .args .marks) (c .args .rights) (c .args .grants) (c .args .memory))
-    (c .args .registers)
-
--- from where a turn's instruction has been performed: where the turn began, and the function's entry
+-- from where an instruction has been performed: where its turn began, and the function's entry
 abbrev turn : tie.After-perform Inv-loop μ-loop → tie.In-loop Inv-loop μ-loop
-turn c = c .before .before .before .before .before .before .before .before .before
+turn c = search
 
-abbrev entry : tie.After-perform Inv-loop μ-loop → tie.Start Inv-loop μ-loop
-entry c = start (turn c .before .before)
+abbrev start : tie.After-perform Inv-loop μ-loop → tie.Start Inv-loop μ-loop
+start c = search
+
+-- its answer's entry
+entry : (c : tie.After-perform Inv-loop μ-loop) → c .perform .result .position - 1 ≡ turn c .before .loop .k
+entry c = position-entry (turn c .before .loop .k) (c .perform .ensures)
 
 loop-holds : tie.Need-loop-holds Inv-loop μ-loop
-loop-holds c = (search needs, turn-first _ _ _ _ (start c .pre .0))
+loop-holds c =
+    let s : tie.Start Inv-loop μ-loop = search in
+    (search needs, turn-first _ _ _ _ (s .pre .0))
 
 mul-at : tie.Need-mul-at Inv-loop μ-loop
 mul-at c = search needs
@@ -79,40 +75,49 @@ shared-slice-read-perform-4 : tie.Need-shared-slice-read-perform-4 Inv-loop μ-l
 shared-slice-read-perform-4 c = search needs
 
 perform-requires : tie.Need-perform-requires Inv-loop μ-loop
-perform-requires c κs = c .before .before .before .before .before .before .before .before .before .loop .inv .1 .begun
+perform-requires c κs =
+    let t : tie.In-loop Inv-loop μ-loop = search in
+    t .before .loop .inv .1 .begun
+
+sub-entry : tie.Need-sub-entry Inv-loop μ-loop
+sub-entry c =
+    let p : tie.After-perform Inv-loop μ-loop = search in
+    omega (arith, position-told (turn p .before .loop .k) (p .perform .ensures))
 
 mul-numbers : tie.Need-mul-numbers Inv-loop μ-loop
 mul-numbers c =
-    let p = c .before .before .before .before .before .before .before .before in
-    omega (arith, turn p .loop-test .taken, entry p .pre .1, entry p .good)
+    let p : tie.After-perform Inv-loop μ-loop = search in
+    omega (arith, entry p, turn p .loop-test .taken, start p .pre .1, start p .good)
 
 slice-write-numbers : tie.Need-slice-write-numbers Inv-loop μ-loop
 slice-write-numbers c =
-    let p = c .before .before .before .before .before .before .before .before in
-    omega (arith, turn p .loop-test .taken, entry p .pre .1, turn p .before .loop .inv .1 .long)
+    let p : tie.After-perform Inv-loop μ-loop = search in
+    omega (arith, entry p, turn p .loop-test .taken, start p .pre .1, turn p .before .loop .inv .1 .long)
 
 mul-values : tie.Need-mul-values Inv-loop μ-loop
 mul-values c =
-    let p = c .before .before .before .before .before .before .before .before in
-    omega (arith, turn p .loop-test .taken, entry p .pre .1, entry p .good)
+    let p : tie.After-perform Inv-loop μ-loop = search in
+    omega (arith, entry p, turn p .loop-test .taken, start p .pre .1, start p .good)
 
 slice-write-values : tie.Need-slice-write-values Inv-loop μ-loop
 slice-write-values c =
-    let p = c .before .before .before .before .before .before .before .before in
-    omega (arith, turn p .loop-test .taken, entry p .pre .1, turn p .before .loop .inv .1 .wide)
+    let p : tie.After-perform Inv-loop μ-loop = search in
+    omega (arith, entry p, turn p .loop-test .taken, start p .pre .1, turn p .before .loop .inv .1 .wide)
 
 add-k : tie.Need-add-k Inv-loop μ-loop
 add-k c =
-    let p = c .before .before .before .before .before .before .before .before .before in
-    omega (arith, turn p .loop-test .taken, entry p .pre .1, entry p .good)
+    let p : tie.After-perform Inv-loop μ-loop = search in
+    omega (arith, turn p .loop-test .taken, start p .pre .1, start p .good)
 
 loop-less : tie.Need-loop-less Inv-loop μ-loop
-loop-less c = omega (arith, turn (c .before .before .before .before .before .before .before .before .before) .loop-test .taken)
+loop-less c =
+    let t : tie.In-loop Inv-loop μ-loop = search in
+    omega (arith, t .loop-test .taken)
 
 loop-again : tie.Need-loop-again Inv-loop μ-loop
 loop-again c =
-    let p = c .before .before .before .before .before .before .before .before .before in
-    (omega (arith, turn p .loop-test .taken), turn-next (came (p .perform .result) _) (turn p .before .loop .inv .1) (p .perform .ensures))
+    let p : tie.After-perform Inv-loop μ-loop = search in
+    (omega (arith, turn p .loop-test .taken), turn-next (came (p .perform .result .reply) _) (turn p .before .loop .inv .1) (p .perform .ensures))
 
 same-length : tie.Need-same-length Inv-loop μ-loop
 same-length c = c .before .loop .inv .1 .shape .marks
@@ -135,7 +140,7 @@ same-length-6 c = c .before .loop .inv .1 .wide
 returns : tie.Need-returns Inv-loop μ-loop
 returns c =
     let at = c .before .loop in
-    let s = start (c .before .before) in
+    let s : tie.Start Inv-loop μ-loop = search in
     let e : at .k ≡ s .args .count = omega (arith, c .loop-test .left, at .inv .0) in
     turns-ran (at .inv .1) e
 
@@ -160,6 +165,7 @@ run-list-spec =
     mul-perform-4
     shared-slice-read-perform-4
     perform-requires
+    sub-entry
     mul-numbers
     slice-write-numbers
     mul-values

@@ -4,7 +4,7 @@ ghost use mathlib.Core.Path.{_≡_};
 ghost use Rattle.rules.specs.Numbers.{state};
 ghost use Rattle.rules.specs.Lent.{before, after};
 ghost use Rattle.rules.specs.Calls.{instruction, blockWrite, performed};
-ghost use Rattle.monitor.specs.Ready.{viewPlaceIn, came};
+ghost use Rattle.monitor.specs.Answers.{came, viewPlaceIn};
 ghost use Rattle.monitor.specs.Runs.{ran, runAll};
 use monitor::Reply;
 use monitor::ViewPlace;

@@ -1,5 +1,5 @@
 //! The proved library's calls, as include/cells.h declares them, behind safe functions. The static library must have been
-//! built before: `rt staticlib exports`.
+//! built before: `rt staticlib cells`.
 
 /// One core's registers, laid out as include/cells.h has them.
 #[repr(C)]
@@ -69,7 +69,7 @@ pub struct ViewPlace {
     pub count: usize,
 }
 
-#[link(name = "exports", kind = "static")]
+#[link(name = "cells", kind = "static")]
 extern "C" {
     fn cells_execute(
         m: usize,

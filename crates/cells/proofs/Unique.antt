@@ -3,10 +3,10 @@
 use mathlib.Core.Path.{_≡_, ap}
 use Rattle.rules.proofs.Laws.{one-outcome}
 use Rattle.monitor.proofs.Unique.{same-reply, lists, answers}
-use Rattle.exports.proofs.cells_execute.Reads as execute-reads
-use Rattle.exports.proofs.cells_execute_all.Reads as execute-all-reads
-use Rattle.exports.proofs.cells_write_block.Reads as write-block-reads
-use Rattle.exports.proofs.cells_view.Reads as view-reads
+use Rattle.cells.proofs.cells_execute.Reads as execute-reads
+use Rattle.cells.proofs.cells_execute_all.Reads as execute-all-reads
+use Rattle.cells.proofs.cells_write_block.Reads as write-block-reads
+use Rattle.cells.proofs.cells_view.Reads as view-reads
 
 pub cells-execute-unique : (κs : _) (a : _) (r q : _) (s u : _) → execute-reads.Post κs a r s → execute-reads.Post κs a q u
     → (r ≡ q) × (lists a s ≡ lists a u)
