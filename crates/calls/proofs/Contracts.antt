@@ -1,11 +1,9 @@
--- From the contract of each public call, as the source states it, to demand 3 (`Post` is what `ensures` says of the arguments,
--- the result and the parameters at exit; a list with ′ is one at exit). Assumes nothing.
+-- What the contract of each public call, as the source states it, says of one call: that its outcome is the definition's
+-- (`Post` is what `ensures` says of the arguments, the result and the parameters at exit; a list with ′ is one at exit).
+-- Assumes nothing.
 use Prim.Native.Nat.{ℕ}
-use mathlib.Core.Path.{_≡_, refl, sym, ap, _∙_, subst}
-use mathlib.Core.Logic.{_≢_}
-use mathlib.Core.Bool.{true}
-use native.Mathlib.Omega.{arith}
-use lib.ListN.{getD, take, drop}
+use mathlib.Core.Path.{_≡_, refl, sym, ap}
+use lib.ListN.{take, drop}
 use lib.Dec.{eqb}
 use borrow.Author.Tests.{eqb-true}
 use denote.Ref.{now}
@@ -17,23 +15,17 @@ use Rattle.rules.specs.declared.Answer.{Answer}
 use Rattle.rules.proofs.Below.{by-test}
 use Rattle.rules.proofs.Laws.{by-outcome, accepted-done}
 use Rattle.monitor.specs.Answers.{came, answerIn, viewPlaceIn}
-use Rattle.monitor.specs.Runs.{instructionAt, roomIn, Ran}
 use Rattle.monitor.specs.declared.reply.Reply.{Reply}
 use Rattle.monitor.specs.declared.reply.ViewPlace.{ViewPlace}
 use Rattle.monitor.proofs.Locating.{viewed-part}
 use Rattle.monitor.proofs.execute.Reads as execute-reads
-use Rattle.monitor.proofs.execute_all.Reads as execute-all-reads
 use Rattle.monitor.proofs.write_block.Reads as write-block-reads
 use Rattle.monitor.proofs.view.Reads as view-reads
 use Rattle.monitor.proofs.view_answer.Reads as view-answer-reads
 use Rattle.monitor.proofs.view_place.Reads as view-place-reads
-use Rattle.history.specs.History.{Right, Held}
-use Rattle.history.specs.Shown.{holdsIn, shown, LastWritten}
-use Rattle.history.proofs.Demand3.{byte-history}
-use Rattle.calls.proofs.Lists.{list-run, list-history}
 
 -- a read view leaves all as it was
-view-kept : (s : State) (x n : ℕ) → performed s (readView x n) .after ≡ s
+pub view-kept : (s : State) (x n : ℕ) → performed s (readView x n) .after ≡ s
 unfolding done
 view-kept s x n = by-outcome (λ o. o .after ≡ s) s (readView x n) (λ k h. refl) (λ h. refl)
 

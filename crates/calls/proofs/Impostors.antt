@@ -9,7 +9,7 @@ use native.Mathlib.Omega.{arith}
 use lib.ListN.{getD}
 use denote.Ref.{now}
 use Rattle.rules.specs.Below.{every, count, lowestFrom, lowest}
-use Rattle.rules.specs.Numbers.{Tables, State, state, inBounds, rightLengths, partOf, larger, join}
+use Rattle.rules.specs.Numbers.{Tables, State, inBounds, rightLengths, partOf, larger, join}
 use Rattle.rules.specs.Lent.{Slice, Passed, lentOf, restOf}
 use Rattle.rules.specs.Sound.{soundGrant, holders, afterCellBefore, soundCell, soundTables, lowestUnsound}
 use Rattle.rules.specs.Refusals.{Outcome, firstFailing, answered, wellSized, knownDivisions}

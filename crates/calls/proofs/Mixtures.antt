@@ -1,4 +1,4 @@
--- Demand 3 of what the functions do: any mixture of the public calls, each of which met its contract acts the source states it
+-- Demand 3 of what the functions do: any mixture of the public calls, each of which met its contract as the source states it
 -- (`Post` is what `ensures` says of the arguments, the result and the parameters at exit). Assumes nothing.
 use Prim.Native.Nat.{ℕ, zero, suc}
 use mathlib.Core.Path.{_≡_, refl, sym, ap, _∙_, subst}
@@ -10,10 +10,9 @@ use denote.Ref.{now}
 use Rattle.rules.specs.Numbers.{State, state}
 use Rattle.rules.specs.Lent.{Slice, Passed, lentOf, restOf}
 use Rattle.rules.specs.Refusals.{Outcome}
-use Rattle.rules.specs.Calls.{Action, instruction, blockWrite, readView, done, performed, outcomes, afterAll}
+use Rattle.rules.specs.Calls.{Action, instruction, blockWrite, readView, performed, outcomes, afterAll}
 use Rattle.rules.specs.declared.Registers.{Registers}
 use Rattle.rules.specs.declared.Answer.{Answer}
-use Rattle.rules.proofs.Laws.{by-outcome}
 use Rattle.monitor.specs.Runs.{instructionAt, roomIn, afterFirst, Ran}
 use Rattle.monitor.specs.declared.reply.Reply.{Reply}
 use Rattle.monitor.specs.declared.reply.ViewPlace.{ViewPlace}
@@ -26,6 +25,7 @@ use Rattle.monitor.proofs.view_answer.Reads as view-answer-reads
 use Rattle.monitor.proofs.view_place.Reads as view-place-reads
 use Rattle.history.specs.History.{Right, Held}
 use Rattle.history.specs.Shown.{holdsIn, shown, LastWritten}
+use Rattle.calls.proofs.Contracts.{view-kept}
 use Rattle.history.proofs.Sequences.{Called, called-run, called-history, called-bytes, steps, after-more}
 
 -- ---- what a call is lent, and what it stands for
@@ -51,7 +51,7 @@ unfoldable pub firstOf : List ℕ → (k : ℕ) → List Action
 firstOf l zero = []
 firstOf l (suc k) = firstOf l k ++ (instructionAt l k ∷ [])
 
--- a list of instructions and two lists of answers: acts many acts are whole and have room for both
+-- a list of instructions and two lists of answers: as many as are whole and have room for both
 abbrev pub listOf : Passed (Registers × (Slice × (Slice × (Slice × Unit {0})))) → List Action
 listOf a =
     let l = now (restOf a .1 .0) in
@@ -60,7 +60,7 @@ listOf a =
 -- ---- one call
 
 -- from a state a public call was made, which met its contract: the actions that it stands for, and the state that it left.
--- Of what a view is lent nothing can be written, so all is passed on acts it was
+-- Of what a view is lent nothing can be written, so all is passed on as it was
 pub data Call : State → List Action → State → Type 0 where
   execute-call : (κs : _) (a : _) (r : Reply) (b : _) → execute-reads.Post κs a r b
       → Call (stateOf a) (instructionOf a ∷ []) (state (lists a b) (r .registers))
@@ -71,11 +71,6 @@ pub data Call : State → List Action → State → Type 0 where
   view-call : (κs : _) (a : _) (r : Slice) → view-reads.Post κs a r a → Call (stateOf a) (viewOf a ∷ []) (stateOf a)
   view-answer-call : (κs : _) (a : _) (r : Answer) → view-answer-reads.Post κs a r a → Call (stateOf a) (viewOf a ∷ []) (stateOf a)
   view-place-call : (κs : _) (a : _) (r : ViewPlace) → view-place-reads.Post κs a r a → Call (stateOf a) (viewOf a ∷ []) (stateOf a)
-
--- a read view leaves all acts it was
-view-kept : (s : State) (x n : ℕ) → s ≡ performed s (readView x n) .after
-unfolding done
-view-kept s x n = by-outcome (λ o. s ≡ o .after) s (readView x n) (λ k h. refl) (λ h. refl)
 
 -- the state after the first k instructions of a list
 pub list-end : (s : State) (l : List ℕ) (k : ℕ) → afterFirst s l k ≡ afterAll s (firstOf l k)
@@ -92,9 +87,9 @@ call-end (execute-all-call κs a r b e) =
     let l = now (restOf a .1 .0) in
     ap (λ (o : Ran). o .after) e ∙ list-end (stateOf a) l (roomIn l (now (restOf a .1 .1 .0)) (now (restOf a .1 .1 .1 .0)))
 call-end (write-block-call κs a r b e) = ap (λ (o : Outcome). o .after) e
-call-end (view-call κs a r e) = view-kept (stateOf a) (restOf a .1 .0) (restOf a .1 .1 .0)
-call-end (view-answer-call κs a r e) = view-kept (stateOf a) (restOf a .1 .0) (restOf a .1 .1 .0)
-call-end (view-place-call κs a r e) = view-kept (stateOf a) (restOf a .1 .0) (restOf a .1 .1 .0)
+call-end (view-call κs a r e) = sym (view-kept (stateOf a) (restOf a .1 .0) (restOf a .1 .1 .0))
+call-end (view-answer-call κs a r e) = sym (view-kept (stateOf a) (restOf a .1 .0) (restOf a .1 .1 .0))
+call-end (view-place-call κs a r e) = sym (view-kept (stateOf a) (restOf a .1 .0) (restOf a .1 .1 .0))
 
 -- ---- any mixture of calls, one after the other
 

@@ -27,7 +27,9 @@ use Rattle.rules.proofs.Laws.{refusal-same, accepted-exactly, accepted-done}
 use Rattle.history.specs.History.{toWrite}
 use Rattle.history.specs.Shown.{has, holdsIn, Writes, by-store, by-block, CoversPlace, Writer, stateAt, byteAt, LastWritten}
 use Rattle.history.proofs.Bits.{has-part}
-use Rattle.history.proofs.Local.{Accepted, accepted-kind, holds-made}
+use Rattle.history.proofs.Entries.{holds-made}
+use Rattle.history.proofs.Accepted.{Accepted}
+use Rattle.history.proofs.Local.{accepted-kind}
 
 -- ---- lists
 

@@ -25,7 +25,8 @@ use Rattle.history.specs.History.{Right}
 use Rattle.history.specs.Shown.{has, holdsIn, offersIn, deedOf, formedDeed, deedIn, isAccepted, takesBy, stateAt, beginsAt, shown}
 use Rattle.history.proofs.Bits.{has-none}
 use Rattle.history.proofs.Bounds.{Around, holder, never-around}
-use Rattle.history.proofs.Local.{Accepted, accepted-kind, entry-grants, no-grant, call-gain}
+use Rattle.history.proofs.Accepted.{Accepted, entry-grants, no-grant}
+use Rattle.history.proofs.Local.{accepted-kind, call-gain}
 use Rattle.history.proofs.Demand3.{shown-laws}
 
 -- ---- over any sequence

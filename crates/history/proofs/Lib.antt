@@ -3,6 +3,8 @@ pub mod Theorem
 pub mod Path
 pub mod Bounds
 pub mod Bits
+pub mod Entries
+pub mod Accepted
 pub mod Local
 pub mod Bytes
 pub mod Demand3

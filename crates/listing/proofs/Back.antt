@@ -1,245 +1,28 @@
--- What is written of tables reads back as the same tables: the core line, the lines of the rights and those of the grants.
--- Assumes nothing.
-use Prim.Native.Nat.{ℕ, zero, suc, _+_, _-_, _*_, _/_, _%_, _≤_, _<_}
-use mathlib.Core.Path.{_≡_, refl, sym, ap, _∙_}
-use mathlib.Core.List.{List, [], _∷_, _++_, append-assoc, append-nil}
-use mathlib.Core.Bool.{true, false, not, _&&_, true≢false}
+-- What is written of tables reads back as the same tables: the core line, the lines of the rights and those of the grants
+-- (`tables-back`). Assumes nothing.
+use Prim.Native.Nat.{ℕ, zero, suc, _+_, _*_, _/_, _%_, _≤_, _<_}
+use mathlib.Core.Path.{_≡_, refl, _∙_}
+use mathlib.Core.List.{List, [], _∷_, _++_, append-assoc}
+use mathlib.Core.Bool.{true, false, not, _&&_}
 use native.Mathlib.Omega.{arith}
-use native.Mathlib.Nat.{sub-zero, mod-lt, div-lt-iff-lt-mul, div-add-mod'}
-use native.Mathlib.Numerals.{add-one}
-use lib.ListN.{length, getD, take, drop, set, length-append, length-drop, List·getD-eq-default}
-use lib.Seq.{take-all, take-suc, length-take-le, append-snoc, set-at, drop-drop, drop-append-seam}
+use native.Mathlib.Nat.{mod-lt, div-lt-iff-lt-mul, div-add-mod'}
+use lib.ListN.{length, getD, drop, length-append, List·getD-eq-default}
 use lib.Dec.{leb, ltb, eqb}
-use borrow.Author.Tests.{le-leb, leb-true, ltb-true, eqb-true, eqb-false, ne-eqb}
-use Rattle.text.specs.Star.{star}
-use Rattle.text.specs.Number.{peekAt}
-use Rattle.text.specs.Line.{wordAt, rowAt, rowWithin}
-use Rattle.text.specs.Text.{rowText, fieldsText}
-use Rattle.text.specs.declared.line.Row.{Row}
+use borrow.Author.Tests.{leb-true, ltb-true, eqb-true, eqb-false, ne-eqb}
 use Rattle.text.proofs.Cases.{by-test, below-or-not, and-left, and-right}
-use Rattle.text.proofs.Digits.{peek-drop}
-use Rattle.text.proofs.Lines.{within-limits}
-use Rattle.text.proofs.Stars.{star-more}
-use Rattle.text.proofs.Room.{row-line}
-use Rattle.text.proofs.Round.{Small, row-back}
 use Rattle.rules.specs.Numbers.{Tables, N}
 use Rattle.rules.specs.Refusals.{wellSized}
 use Rattle.rules.specs.Sound.{soundGrant, soundTables}
 use Rattle.rules.specs.declared.Registers.{Registers}
 use Rattle.rules.proofs.Sizes.{Sized, sized}
 use Rattle.rules.proofs.SoundCells.{AllSound, all-sound}
-use Rattle.listing.specs.Words.{rightWord, grantWord, coreWord}
-use Rattle.listing.specs.Lines.{coreRow, rightRow, grantRow, rightAt, grantAt, registersIn}
-use Rattle.listing.specs.Listing.{zeros, Entries, withEntry, rises, withNext, moreEntries, entriesAt}
-use Rattle.listing.specs.Output.{line3, line4, linesOf, coreLine, rightLine, grantLine, stateLines}
-use Rattle.listing.specs.declared.entries.Entry.{Entry}
-use Rattle.listing.proofs.Rows.{within-ok}
+use Rattle.listing.specs.Words.{rightWord, grantWord}
+use Rattle.listing.specs.Lines.{coreRow, rightAt, grantAt, registersIn}
+use Rattle.listing.specs.Listing.{zeros, Entries, entriesAt}
+use Rattle.listing.specs.Output.{linesOf, coreLine, rightLine, grantLine, stateLines}
 use Rattle.listing.proofs.Written.{no-right, some-right, no-grant, some-grant}
-
--- ---- the first e entries of a list, and then j times 0
-
-abbrev upTo : (list : List ℕ) (e j : ℕ) → List ℕ
-upTo list e j = take e list ++ zeros j
-
--- behind the last entry it is the list
-up-all : (list : List ℕ) (e : ℕ) → length list ≤ e → upTo list e 0 ≡ list
-up-all list e h = append-nil (take e list) ∙ take-all e list h
-
-module _ (list : List ℕ) (e j : ℕ) (h : e < length list) where
-  up-next : take e list ++ (getD list e 0 ∷ zeros j) ≡ upTo list (e + 1) j
-  up-next =
-      sym (append-snoc (take e list) (getD list e 0) (zeros j))
-      ∙ rw add-one (ap (λ (l : List ℕ). l ++ zeros j) (sym (take-suc list e 0 h)))
-
-  -- one entry more, which is 0
-  up-zero : getD list e 0 ≡ 0 → upTo list e (suc j) ≡ upTo list (e + 1) j
-  up-zero z = rw z at up-next
-
-  -- one entry more, which is stored
-  up-set : set (upTo list e (suc j)) e (getD list e 0) ≡ upTo list (e + 1) j
-  up-set = set-at (take e list) 0 (zeros j) (getD list e 0) e (length-take-le e list (omega arith)) ∙ up-next
-
--- ---- lines one after the other
-
--- behind none of them
-lines-end : (text : ℕ → List ℕ) (e at : ℕ) → at + length (linesOf text e 0) ≡ at
-unfolding linesOf
-lines-end text e at = omega arith
-
-lines-more : (text : ℕ → List ℕ) (e j : ℕ) → linesOf text e (suc j) ≡ text e ++ linesOf text (e + 1) j
-unfolding linesOf
-lines-more text e j = refl
-
--- an entry of which nothing is written
-lines-skip : (text : ℕ → List ℕ) (e j : ℕ) → text e ≡ [] → linesOf text e (suc j) ≡ linesOf text (e + 1) j
-lines-skip text e j z = lines-more text e j ∙ rw z
-
--- behind a text that stands at a place
-behind : (s : List ℕ) (at : ℕ) (t u : List ℕ) → drop at s ≡ t ++ u → drop (at + length t) s ≡ u
-behind s at t u e = sym (drop-drop (length t) at s) ∙ ap (drop (length t)) e ∙ drop-append-seam t u
-
--- ---- one turn of the reader, and none
-
-module _ (line : ℕ → Entry) (t : Entries) where
-  -- where no line stands, nothing more is read
-  still : (k : ℕ) → line (t .next) .ok ≡ false → moreEntries line k t ≡ t
-  unfolding star
-  still zero f = refl
-  still (suc k) f = rw f
-
-  -- where a line stands that names an entry not below the least, it is read
-  turn : (k : ℕ) (e : Entry) → 0 < k → line (t .next) ≡ e → e .ok ≡ true → t .least ≤ e .key
-      → moreEntries line k t ≡ moreEntries line (k - 1) (withEntry t e)
-  turn k e h q ok up =
-      rw sub-zero at (star-more (rises line) (withNext line) t k 0 h (rw (q, ok, le-leb (t .least) (e .key) up)))
-      ∙ ap (λ (e : Entry). moreEntries line (k - 1) (withEntry t e)) q
-
--- ---- a list of entries: `text e` is written of entry e, and `line at` is what is read at a place of s
-
-pub record Readable (s list : List ℕ) (text : ℕ → List ℕ) (line : ℕ → Entry) : Type 0 where
-  -- an entry that is 0 is not written
-  pub none : (e : ℕ) → getD list e 0 ≡ 0 → text e ≡ []
-  -- another takes a byte at least
-  pub some : (e : ℕ) → e < length list → (getD list e 0 ≡ 0 → ⊥) → 0 < length (text e)
-  -- and where its text stands, a line names the entry and its value, and ends after the text
-  pub reads : (e at : ℕ) (rest : List ℕ) → e < length list → (getD list e 0 ≡ 0 → ⊥) → drop at s ≡ text e ++ rest
-      → line at ≡ record { ok = true; next = at + length (text e); key = e; value = getD list e 0 }
-
--- the list that was read, and the place after its lines
-abbrev pub ReadAs : (r : Entries) (list : List ℕ) (next : ℕ) → Type 0
-ReadAs r list next = (r .list ≡ list) × (r .next ≡ next)
-
-module _ {s list : List ℕ} {text : ℕ → List ℕ} {line : ℕ → Entry} (rest : List ℕ) (h : Readable s list text line) where
-  -- the entries below e are read, and the text of the j others stands at the place; no line stands behind it
-  entries-from : (j e k at count least : ℕ) → e + j ≡ length list → least ≤ e → length (linesOf text e j) ≤ k
-      → drop at s ≡ linesOf text e j ++ rest → line (at + length (linesOf text e j)) .ok ≡ false
-      → ReadAs (moreEntries line k (record { count = count; next = at; least = least; list = upTo list e j }))
-      list (at + length (linesOf text e j))
-  entries-from zero e k at count least all low fuel d f =
-      let t : Entries = record { count = count; next = at; least = least; list = upTo list e 0 } in
-      let place = lines-end text e at in
-      let same = still line t k (rw place at f) in
-      (ap (λ (t : Entries). t .list) same ∙ up-all list e (omega arith), ap (λ (t : Entries). t .next) same ∙ sym place)
-  entries-from (suc j) e k at count least all low fuel d f =
-      by-test (eqb (getD list e 0) 0)
-      (λ q.
-      let z : getD list e 0 ≡ 0 = eqb-true (getD list e 0) 0 q in
-      let skip : linesOf text e (suc j) ≡ linesOf text (e + 1) j = lines-skip text e j (h .none e z) in
-      rw (skip, up-zero list e j (omega arith) z)
-      (entries-from j (e + 1) k at count least (omega arith) (omega arith) (rw skip at fuel) (rw skip at d) (rw skip at f)))
-      (λ q.
-      let v = getD list e 0 in
-      let z : v ≡ 0 → ⊥ = eqb-false v 0 q in
-      let inside : e < length list = omega arith in
-      let others = linesOf text (e + 1) j in
-      let long : length (linesOf text e (suc j)) ≡ length (text e) + length others =
-      rw (lines-more text e j) (length-append (text e) others) in
-      let stands : drop at s ≡ text e ++ (others ++ rest) =
-      d ∙ rw (lines-more text e j) (append-assoc (text e) others rest) in
-      let place : at + length (text e) + length others ≡ at + length (linesOf text e (suc j)) = omega (arith, long) in
-      let t : Entries = record { count = count; next = at; least = least; list = upTo list e (suc j) } in
-      let one : Entry = record { ok = true; next = at + length (text e); key = e; value = v } in
-      let some = h .some e inside z in
-      let same = turn line t k one (omega (arith, some, long)) (h .reads e at (others ++ rest) inside z stands) refl low in
-      let then = entries-from j (e + 1) (k - 1) (at + length (text e)) (count + 1) (e + 1) (omega arith) (omega arith)
-      (omega (arith, some, long)) (behind s at (text e) (others ++ rest) stands) (rw place f) in
-      rw (same, up-set list e j inside, ← place) then)
-
-  -- where the text of a whole list stands, the list is read
-  pub entries-back : (at : ℕ) → drop at s ≡ linesOf text 0 (length list) ++ rest
-      → line (at + length (linesOf text 0 (length list))) .ok ≡ false
-      → ReadAs (entriesAt line (length s) at (zeros (length list))) list (at + length (linesOf text 0 (length list)))
-  entries-back at d f =
-      let t = linesOf text 0 (length list) in
-      let long : length s - at ≡ length t + length rest = sym (length-drop at s) ∙ ap length d ∙ length-append t rest in
-      entries-from (length list) 0 (length s) at 0 0 (omega arith) (omega arith) (omega (arith, long)) d f
-
--- ---- a line that was written, read within its limits
-
--- five numbers
-small-five : (a b c d e : ℕ) → a ≤ 4294967295 → b ≤ 4294967295 → c ≤ 4294967295 → d ≤ 4294967295 → e ≤ 4294967295
-    → Small (a ∷ b ∷ c ∷ d ∷ e ∷ [])
-small-five a b c d e f g h i j zero = f
-small-five a b c d e f g h i j (suc zero) = g
-small-five a b c d e f g h i j (suc (suc zero)) = h
-small-five a b c d e f g h i j (suc (suc (suc zero))) = i
-small-five a b c d e f g h i j (suc (suc (suc (suc zero)))) = j
-small-five a b c d e f g h i j (suc (suc (suc (suc (suc k))))) = omega arith
-
--- the line of a keyword and three or four numbers, as a row that ends at a place
-abbrev row3 : (next a b c : ℕ) → Row
-row3 next a b c = record { ok = true; next = next; v = a ∷ b ∷ c ∷ 0 ∷ 0 ∷ [] }
-
-abbrev row4 : (next a b c d : ℕ) → Row
-row4 next a b c d = record { ok = true; next = next; v = a ∷ b ∷ c ∷ d ∷ 0 ∷ [] }
-
-module _ (s rest : List ℕ) (at : ℕ) (w : List ℕ) (a b c : ℕ) (f : a ≤ 4294967295) (g : b ≤ 4294967295) (h : c ≤ 4294967295) where
-  line3-back : drop at s ≡ line3 w a b c ++ rest → rowAt s at w 3 ≡ row3 (at + length (line3 w a b c)) a b c
-  line3-back e =
-      row-back w (a ∷ b ∷ c ∷ 0 ∷ 0 ∷ []) 3 (omega arith) refl
-      (small-five a b c 0 0 f g h (omega arith) (omega arith)) s rest at e
-
-  line4-back : (d : ℕ) → d ≤ 4294967295 → drop at s ≡ line4 w a b c d ++ rest
-      → rowAt s at w 4 ≡ row4 (at + length (line4 w a b c d)) a b c d
-  line4-back d i e =
-      row-back w (a ∷ b ∷ c ∷ d ∷ 0 ∷ []) 4 (omega arith) refl
-      (small-five a b c d 0 f g h i (omega arith)) s rest at e
-
--- a line is not shorter than its keyword
-row-long : (w v : List ℕ) (k : ℕ) → k ≤ 5 → length w ≤ length (rowText w v k)
-row-long w v k few = rw (row-line w v k few) (omega (arith, length-append w (fieldsText k 0 v)))
-
--- ---- the cell and the division of entry e, of n cells and m divisions
-module _ (n m e : ℕ) (some : 1 ≤ m) (few : m ≤ 32) (cells : n ≤ 256) (inside : e < n * m) where
-  cell-below : e / m < n
-  cell-below = div-lt-iff-lt-mul some .1 inside
-
-  division-below : e % m < m
-  division-below = mod-lt e some
-
-  module _ (s rest : List ℕ) (at : ℕ) where
-    -- the line of a right names the entry
-    right-line-back : (h : ℕ) → 1 ≤ h → h ≤ 7 → drop at s ≡ line3 rightWord (e / m) (e % m) h ++ rest
-        → rightAt n m s at ≡ record { ok = true; next = at + length (line3 rightWord (e / m) (e % m) h); key = e; value = h }
-    unfolding rightAt rightRow
-    right-line-back h low high d =
-        let c = e / m in
-        let k = e % m in
-        let r = row3 (at + length (line3 rightWord c k h)) c k h in
-        let row : rowAt s at rightWord 3 ≡ r =
-        line3-back s rest at rightWord c k h (omega (arith, cell-below)) (omega (arith, division-below)) (omega arith) d in
-        rw (
-          row,
-          ← within-limits r 0 0 n (omega arith) (omega arith) cell-below,
-          ← within-limits r 1 0 m (omega arith) (omega arith) division-below,
-          ← within-limits r 2 1 8 (omega arith) low (omega arith),
-          div-add-mod' e m,
-        )
-
-    -- the line of a grant names the entry
-    grant-line-back : (g : ℕ) → 1 ≤ g / 256 → g / 256 ≤ 7 → g % 256 < m
-        → drop at s ≡ line4 grantWord (e / m) (e % m) (g % 256) (g / 256) ++ rest
-        → grantAt n m s at
-        ≡ record { ok = true; next = at + length (line4 grantWord (e / m) (e % m) (g % 256) (g / 256)); key = e; value = g }
-    unfolding grantAt grantRow
-    grant-line-back g low high target d =
-        let c = e / m in
-        let k = e % m in
-        let to = g % 256 in
-        let h = g / 256 in
-        let r = row4 (at + length (line4 grantWord c k to h)) c k to h in
-        let row : rowAt s at grantWord 4 ≡ r =
-        line4-back s rest at grantWord c k to (omega (arith, cell-below)) (omega (arith, division-below)) (omega arith) h (omega arith) d in
-        let whole : to + 256 * h ≡ g = omega arith in
-        rw (
-          row,
-          ← within-limits r 0 0 n (omega arith) (omega arith) cell-below,
-          ← within-limits r 1 0 m (omega arith) (omega arith) division-below,
-          ← within-limits r 2 0 m (omega arith) (omega arith) target,
-          ← within-limits r 3 1 8 (omega arith) low (omega arith),
-          div-add-mod' e m,
-          whole,
-        )
+use Rattle.listing.proofs.EntriesBack.{lines-end, lines-more, lines-skip, behind, Readable, ReadAs, entries-back}
+use Rattle.listing.proofs.LinesBack.{row-long, right-line-back, grant-line-back, core-back, right-first, grant-first}
 
 -- ---- rights and grants as entries that read back
 
@@ -278,7 +61,7 @@ module _ (n m : ℕ) (some : 1 ≤ m) (few : m ≤ 32) (cells : n ≤ 256) (s li
             rw text (grant-line-back n m e some few cells (omega (arith, long)) s rest at g (p .0) (p .1) (p .2) (rw text at d));
       }
 
--- ---- the theorems
+-- ---- the lists
 
 module _ (n m : ℕ) (some : 1 ≤ m) (few : m ≤ 32) (cells : n ≤ 256) (s rest : List ℕ) (at : ℕ) where
   -- the rights that stand written at a place are read there, where no right line follows
@@ -300,42 +83,7 @@ module _ (n m : ℕ) (some : 1 ≤ m) (few : m ≤ 32) (cells : n ≤ 256) (s re
   grants-back grants long right d f =
       rw (← long) (entries-back rest (grants-readable n m some few cells s grants long right) at d f)
 
--- the registers that stand written at a place are read there
-pub core-back : (r : Registers) (s rest : List ℕ) (at : ℕ) → r .current ≤ 4294967295 → r .caller ≤ 4294967295
-    → r .place ≤ 4294967295 → drop at s ≡ coreLine r ++ rest
-    → (coreRow s at .ok ≡ true) × (registersIn (coreRow s at) ≡ r) × (coreRow s at .next ≡ at + length (coreLine r))
-unfolding coreRow coreLine
-core-back r s rest at f g h d =
-    let row = line3-back s rest at coreWord (r .current) (r .caller) (r .place) f g h d in
-    (ap (λ (r : Row). r .ok) row, ap registersIn row, ap (λ (r : Row). r .next) row)
-
 -- ---- no right line stands where the lines of grants do
-
--- a line starts with the first byte of its keyword
-row-first : (s : List ℕ) (at x : ℕ) (w : List ℕ) (k : ℕ) → rowAt s at (x ∷ w) k .ok ≡ true → peekAt s at ≡ x
-unfolding rowAt
-row-first s at x w k e =
-    by-test (leb k 5 && wordAt s at (x ∷ w))
-    (λ h.
-    eqb-true (peekAt s at) x
-    (and-left (eqb (peekAt s at) x) (wordAt s (at + 1) w) (and-right (leb k 5) (wordAt s at (x ∷ w)) h)))
-    (λ h. absurd (true≢false (sym e ∙ rw h)))
-
--- a right line with r
-right-first : (n m : ℕ) (s : List ℕ) (at : ℕ) → rightAt n m s at .ok ≡ true → peekAt s at ≡ 114
-unfolding rightAt rightRow
-right-first n m s at e =
-    let r₀ = rowAt s at rightWord 3 in
-    let r₁ = rowWithin r₀ 0 0 n in
-    let r₂ = rowWithin r₁ 1 0 m in
-    row-first s at 114 (105 ∷ 103 ∷ 104 ∷ 116 ∷ []) 3
-    (within-ok r₀ 0 0 n (within-ok r₁ 1 0 m (within-ok r₂ 2 1 8 e .0) .0) .0)
-
--- the line of a grant with g
-grant-first : (s rest : List ℕ) (at a b c d : ℕ) → drop at s ≡ line4 grantWord a b c d ++ rest → peekAt s at ≡ 103
-grant-first s rest at a b c d e =
-    let line = row-line grantWord (a ∷ b ∷ c ∷ d ∷ 0 ∷ []) 4 (omega arith) in
-    sym (peek-drop s at) ∙ ap (λ (l : List ℕ). peekAt l 0) (e ∙ ap (λ (l : List ℕ). l ++ rest) line)
 
 -- where none stands behind them
 grants-no-right : (n m : ℕ) (s rest grants : List ℕ) (j e at : ℕ) → drop at s ≡ linesOf (grantLine m grants) e j ++ rest

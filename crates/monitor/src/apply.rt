@@ -9,14 +9,14 @@ ghost use Rattle.rules.specs.Calls.{doneAt};
 ghost use Rattle.rules.proofs.Checks.{AllHold};
 ghost use Rattle.monitor.specs.Answers.{came};
 ghost use Rattle.monitor.specs.Ready.{Ready};
-use crate::reply::Reply;
-use crate::reply::accept;
 use crate::look::byte_in;
 use crate::look::grant_at;
 use crate::look::held_at;
 use crate::look::nobody_else;
 use crate::look::place_of;
 use crate::look::word_in;
+use crate::reply::Reply;
+use crate::reply::accept;
 use rules::Instruction;
 use rules::Registers;
 

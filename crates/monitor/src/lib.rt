@@ -19,14 +19,14 @@ ghost use Rattle.rules.specs.Calls.{instruction, blockWrite, readView, performe
 ghost use Rattle.monitor.specs.Answers.{came, answerIn, viewPlaceIn};
 ghost use Rattle.monitor.specs.Ready.{firstAnswer};
 ghost use Rattle.monitor.specs.Leaves.{placedIn};
-pub use reply::Reply;
-pub use reply::ViewPlace;
 use block::Located;
 use block::copy_into;
 use block::locate;
 use list::fill;
 use list::room_for;
 use list::run_list;
+pub use reply::Reply;
+pub use reply::ViewPlace;
 use reply::accept;
 use reply::refuse;
 use rules::Answer;

@@ -5,6 +5,7 @@ use mathlib.Core.List.{List, [], _∷_}
 use mathlib.Core.Bool.{true}
 use Rattle.text.specs.Number.{numberAt}
 use Rattle.text.specs.Line.{rowAt, badRow}
+use Rattle.text.specs.FirstLines.{firstLines, lineCount}
 use Rattle.text.specs.Text.{decimal, rowText}
 use Rattle.text.specs.declared.number.Field.the-variants.{Number, Bad}
 
@@ -62,3 +63,16 @@ two-tabs-bad = refl
 unended-bad : rowAt (100 ∷ 111 ∷ 9 ∷ 55 ∷ []) 0 (100 ∷ 111 ∷ []) 1 ≡ badRow
 unfolding rowAt numberAt
 unended-bad = refl
+
+-- `a`, LF, `b` has one line; its first two are all of it
+one-line : lineCount (97 ∷ 10 ∷ 98 ∷ []) ≡ 1
+unfolding lineCount
+one-line = refl
+
+first-line : firstLines 1 (97 ∷ 10 ∷ 98 ∷ []) ≡ 97 ∷ 10 ∷ []
+unfolding firstLines
+first-line = refl
+
+all-lines : firstLines 2 (97 ∷ 10 ∷ 98 ∷ []) ≡ 97 ∷ 10 ∷ 98 ∷ []
+unfolding firstLines
+all-lines = refl

@@ -24,6 +24,12 @@ module _ {S : Type 0} (goes : S → Bool) (next : S → S) (st : S) (k n : ℕ) 
 -- ---- what holds of the end
 
 module _ {S : Type 0} (goes : S → Bool) (next : S → S) where
+  -- where no turn goes, there is none
+  pub star-none : (k : ℕ) (st : S) → goes st ≡ false → star goes next k st ≡ st
+  unfolding star
+  star-none zero st e = refl
+  star-none (suc k) st e = rw e
+
   -- what each turn keeps holds at the end
   pub star-keeps : (P : S → Type 0) → ((st : S) → goes st ≡ true → P st → P (next st)) →
       (k : ℕ) (st : S) → P st → P (star goes next k st)

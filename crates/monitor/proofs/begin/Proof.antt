@@ -2,20 +2,18 @@ use mathlib.Core.Path.{sym, _∙_}
 use mathlib.Core.Bool.{true, false}
 use borrow.Author.Needs.{needs}
 use Rattle.rules.specs.Numbers.{State, state}
-use Rattle.rules.specs.Lent.{given}
+use Rattle.rules.specs.Lent.{lentOf}
 use Rattle.rules.specs.Refusals.{knownDivisions}
 use Rattle.monitor.proofs.Beginning.{tables-refuse, divisions-decide}
 use Rattle.monitor.proofs.begin.Statement.{statement}
 use Rattle.monitor.proofs.begin.Tie as tie
+use Rattle.monitor.proofs.begin.Lts as lts
 
 abbrev st : tie.Start → State
-st c =
-    state
-    (given (c .args .m) (c .args .first) (c .args .last) (c .args .offset) (c .args .marks) (c .args .rights) (c .args .grants) (c .args .memory))
-    (c .args .registers)
+st c = state (lentOf (lts.dens _ _ _ _ (c .args))) (c .args .registers)
 
 abbrev start : tie.After-check → tie.Start
-start c = c .before .before .before .before .before .before .before .before
+start c = search
 
 check-requires : tie.Need-check-requires
 check-requires c κs = search needs
@@ -26,15 +24,17 @@ known-requires c κs = search needs
 returns : tie.Need-returns
 unfolding knownDivisions
 returns c =
-    let sound = c .before .before in
-    divisions-decide (st (start (sound .before))) _ (sound .before .check .ensures) true (sound .if1 .taken)
+    let checked : tie.After-check = search in
+    let sound : tie.Then1 = search in
+    divisions-decide (st (start checked)) _ (checked .check .ensures) true (sound .if1 .taken)
     (sym (c .before .known .ensures) ∙ c .if2 .taken)
 
 returns-2 : tie.Need-returns-2
 unfolding knownDivisions
 returns-2 c =
-    let sound = c .before .before in
-    divisions-decide (st (start (sound .before))) _ (sound .before .check .ensures) false (sound .if1 .taken)
+    let checked : tie.After-check = search in
+    let sound : tie.Then1 = search in
+    divisions-decide (st (start checked)) _ (checked .check .ensures) false (sound .if1 .taken)
     (sym (c .before .known .ensures) ∙ c .if2 .left)
 
 returns-3 : tie.Need-returns-3

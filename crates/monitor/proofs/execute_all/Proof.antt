@@ -5,24 +5,22 @@ use native.Mathlib.Omega.{arith}
 use lib.ListN.{length}
 use denote.Ref.{now}
 use Rattle.rules.specs.Numbers.{State, state}
-use Rattle.rules.specs.Lent.{given}
+use Rattle.rules.specs.Lent.{lentOf}
 use Rattle.monitor.proofs.Beginning.{first-begun}
 use Rattle.monitor.proofs.Running.{room-whole, room-numbers, room-values, ran-as, refused-ran}
 use Rattle.monitor.proofs.execute_all.Statement.{statement}
 use Rattle.monitor.proofs.execute_all.Tie as tie
+use Rattle.monitor.proofs.execute_all.Lts as lts
 
 -- where the room is counted, and the function's entry, from where checks 1, 2 and 3 have answered
 abbrev counted : tie.After-begin → tie.After-room-for
-counted c = c .before .before .before .before .before
+counted c = search
 
 abbrev start : tie.After-begin → tie.Start
-start c = counted c .before .before .before .before .before .before .before .before .before .before .before
+start c = search
 
 abbrev st : tie.Start → State
-st c =
-    state
-    (given (c .args .m) (c .args .first) (c .args .last) (c .args .offset) (c .args .marks) (c .args .rights) (c .args .grants) (c .args .memory))
-    (c .args .registers)
+st c = state (lentOf (lts.dens _ _ _ _ (c .args))) (c .args .registers)
 
 -- the three lists lent beside the tables are long enough for the count
 record Room (c : tie.After-begin) : Type 0 where
@@ -49,15 +47,20 @@ begin-requires c κs = search needs
 
 run-list-requires : tie.Need-run-list-requires
 run-list-requires c κs =
-    let begun = c .before .before .before .before .before .before in
-    let r = room (begun .before) in
-    (first-begun (st (start (begun .before))) _ (begun .before .begin .ensures) (begun .if1 .taken), (r .whole, (r .numbered, r .valued)))
+    let begun : tie.Then1 = search in
+    let checked : tie.After-begin = search in
+    let r = room checked in
+    (first-begun (st (start checked)) _ (checked .begin .ensures) (begun .if1 .taken), (r .whole, (r .numbered, r .valued)))
 
 fill-requires : tie.Need-fill-requires
-fill-requires c κs = room (c .before .before) .numbered
+fill-requires c κs =
+    let checked : tie.After-begin = search in
+    room checked .numbered
 
 fill-requires-2 : tie.Need-fill-requires-2
-fill-requires-2 c κs = room (c .before .before .before .before .before .before) .valued
+fill-requires-2 c κs =
+    let checked : tie.After-begin = search in
+    room checked .valued
 
 same-length : tie.Need-same-length
 same-length c = search needs
@@ -79,11 +82,11 @@ same-length-6 c = search needs
 
 returns : tie.Need-returns
 returns c =
-    let ran = c .before .before .before .before .before .before .before .before .before .before .before .before in
-    let begun = ran .before .before .before .before .before .before .before in
-    let s = start (begun .before) in
+    let ran : tie.After-run-list = search in
+    let checked : tie.After-begin = search in
+    let s = start checked in
     let l = s .args .instructions .now in
-    ran-as (st s) l (s .args .numbers .now) (s .args .values .now) (counted (begun .before) .room-for .ensures) (ran .run-list .ensures)
+    ran-as (st s) l (s .args .numbers .now) (s .args .values .now) (counted checked .room-for .ensures) (ran .run-list .ensures)
 
 same-length-7 : tie.Need-same-length-7
 same-length-7 c = search needs
@@ -105,13 +108,14 @@ same-length-12 c = search needs
 
 returns-2 : tie.Need-returns-2
 returns-2 c =
-    let last = c .before .before in
-    let first = last .before .before .before .before in
-    let refused = first .before .before in
-    let s = start (refused .before) in
+    let last : tie.After-fill2 = search in
+    let first : tie.After-fill = search in
+    let refused : tie.Else1 = search in
+    let checked : tie.After-begin = search in
+    let s = start checked in
     let l = s .args .instructions .now in
-    ran-as (st s) l (s .args .numbers .now) (s .args .values .now) (counted (refused .before) .room-for .ensures)
-    (refused-ran (st s) _ (refused .before .begin .ensures) (refused .if1 .left) l _ (s .args .numbers .now) (s .args .values .now) (first .fill .ensures) (last .fill2 .ensures))
+    ran-as (st s) l (s .args .numbers .now) (s .args .values .now) (counted checked .room-for .ensures)
+    (refused-ran (st s) _ (checked .begin .ensures) (refused .if1 .left) l _ (s .args .numbers .now) (s .args .values .now) (first .fill .ensures) (last .fill2 .ensures))
 
 pub execute-all-spec : {M : Type 1} → statement M
 execute-all-spec =

@@ -1,19 +1,17 @@
 use borrow.Author.Needs.{needs}
 use Rattle.rules.specs.Numbers.{State, state}
-use Rattle.rules.specs.Lent.{given}
+use Rattle.rules.specs.Lent.{lentOf}
 use Rattle.monitor.proofs.Beginning.{first-begun}
 use Rattle.monitor.proofs.Locating.{placed-after, placed-refused}
 use Rattle.monitor.proofs.place_block.Statement.{statement}
 use Rattle.monitor.proofs.place_block.Tie as tie
+use Rattle.monitor.proofs.place_block.Lts as lts
 
 abbrev st : tie.Start → State
-st c =
-    state
-    (given (c .args .m) (c .args .first) (c .args .last) (c .args .offset) (c .args .marks) (c .args .rights) (c .args .grants) (c .args .memory))
-    (c .args .registers)
+st c = state (lentOf (lts.dens _ _ _ _ (c .args) .1)) (c .args .registers)
 
 abbrev start : tie.After-begin → tie.Start
-start c = c .before .before .before .before .before .before .before .before
+start c = search
 
 begin-requires : tie.Need-begin-requires
 begin-requires c κs = search needs
@@ -23,9 +21,10 @@ locate-requires c κs = first-begun (st (start (c .before))) _ (c .before .begin
 
 returns : tie.Need-returns
 returns c =
-    let checked = c .before .before in
+    let checked : tie.After-begin = search in
+    let passed : tie.Then1 = search in
     let a = start checked .args in
-    placed-after (a .needed) (st (start checked)) (a .x) (a .n) _ (checked .begin .ensures) _ (c .before .if1 .taken) (c .locate .ensures)
+    placed-after (a .needed) (st (start checked)) (a .x) (a .n) _ (checked .begin .ensures) _ (passed .if1 .taken) (c .locate .ensures)
 
 returns-2 : tie.Need-returns-2
 returns-2 c =

@@ -35,8 +35,10 @@ same-length-4 c = search needs
 
 returns : tie.Need-returns Inv-loop μ-loop
 returns c =
-    let l = c .before .before .before .before .before .loop .inv in
-    (cells-stop l (c .before .before .before .before .loop-test .taken) _ (c .before .before .before .cell-row .ensures) (not-true _ (c .if1 .taken)), l .few)
+    let t : tie.In-loop Inv-loop μ-loop = search in
+    let read : tie.After-cell-row Inv-loop μ-loop = search in
+    let inv = t .before .loop .inv in
+    (cells-stop inv (t .loop-test .taken) _ (read .cell-row .ensures) (not-true _ (c .if1 .taken)), inv .few)
 
 array-read-first : tie.Need-array-read-first Inv-loop μ-loop
 array-read-first c = search needs
@@ -70,8 +72,10 @@ array-read-marks c = search needs
 
 cast-marks : tie.Need-cast-marks Inv-loop μ-loop
 cast-marks c =
-    let r = c .before .before .before .cell-row in
-    let below : field (r .result) 3 < 2 = rw (r .ensures) (mark-below _ (c .before .before .before .before .before .loop .i)) in
+    let t : tie.At-loop Inv-loop μ-loop = search in
+    let read : tie.After-cell-row Inv-loop μ-loop = search in
+    let r = read .cell-row in
+    let below : field (r .result) 3 < 2 = rw (r .ensures) (mark-below _ (t .loop .i)) in
     omega arith
 
 slice-write-marks : tie.Need-slice-write-marks Inv-loop μ-loop
@@ -85,7 +89,9 @@ loop-less c = search needs
 
 loop-again : tie.Need-loop-again Inv-loop μ-loop
 loop-again c =
-    cells-more (c .before .before .before .before .before .loop .inv) (c .before .before .before .before .loop-test .taken) _ (c .before .before .before .cell-row .ensures) (not-false _ (c .if1 .left))
+    let t : tie.In-loop Inv-loop μ-loop = search in
+    let read : tie.After-cell-row Inv-loop μ-loop = search in
+    cells-more (t .before .loop .inv) (t .loop-test .taken) _ (read .cell-row .ensures) (not-false _ (c .if1 .left))
 
 same-length-5 : tie.Need-same-length-5 Inv-loop μ-loop
 same-length-5 c = search needs

@@ -13,15 +13,21 @@ Inv-loop s at list₀ i₀ n₀ list i n = DosRead s at n i list
 abbrev μ-loop : tie.MeasureT-loop
 μ-loop s at list₀ i₀ n₀ list i n = length s - n
 
+-- where the loop's turn begins
+abbrev turn : tie.Else1 Inv-loop μ-loop → tie.At-loop Inv-loop μ-loop
+turn c = search
+
 -- where a do line stands, there is room for its four numbers
-room : (c : tie.Else1 Inv-loop μ-loop) → 4 * c .before .before .before .before .before .loop .n + 3 < length (c .before .before .before .before .before .loop .list)
+room : (c : tie.Else1 Inv-loop μ-loop) → 4 * turn c .loop .n + 3 < length (turn c .loop .list)
 room c =
-    let l = c .before .before .before .before .before in
-    let few = do-room (l .before .before .before .pre .0) (l .loop .inv) _ (c .before .before .before .do-row .ensures) (not-false _ (c .if1 .left)) in
-    omega (arith, few .0, l .loop .inv .long)
+    let s : tie.Start Inv-loop μ-loop = search in
+    let read : tie.After-do-row Inv-loop μ-loop = search in
+    let inv = turn c .loop .inv in
+    let few = do-room (s .pre .0) inv _ (read .do-row .ensures) (not-false _ (c .if1 .left)) in
+    omega (arith, few .0, inv .long)
 
 loop-holds : tie.Need-loop-holds Inv-loop μ-loop
-loop-holds c = dos-none _ _ _ (c .before .before .pre .1)
+loop-holds c = let s : tie.Start Inv-loop μ-loop = search in dos-none _ _ _ (s .pre .1)
 
 do-row-requires : tie.Need-do-row-requires Inv-loop μ-loop
 do-row-requires c κs = search needs
@@ -31,10 +37,11 @@ same-length c = search needs
 
 returns : tie.Need-returns Inv-loop μ-loop
 returns c =
-    let l = c .before .before .before .before .before in (
-      dos-stop (l .before .before .before .pre .0) (l .loop .inv) _ (c .before .before .before .do-row .ensures) (c .before .before .before .before .loop-test .taken) (not-true _ (c .if1 .taken)),
-      l .loop .inv .short,
-    )
+    let s : tie.Start Inv-loop μ-loop = search in
+    let t : tie.In-loop Inv-loop μ-loop = search in
+    let read : tie.After-do-row Inv-loop μ-loop = search in
+    let inv = t .before .loop .inv in
+    (dos-stop (s .pre .0) inv _ (read .do-row .ensures) (t .loop-test .taken) (not-true _ (c .if1 .taken)), inv .short)
 
 mul-k : tie.Need-mul-k Inv-loop μ-loop
 mul-k c = search needs
@@ -92,8 +99,10 @@ loop-less c = search needs
 
 loop-again : tie.Need-loop-again Inv-loop μ-loop
 loop-again c =
-    let l = c .before .before .before .before .before in
-    dos-more (l .before .before .before .pre .0) (l .loop .inv) _ (c .before .before .before .do-row .ensures) (c .before .before .before .before .loop-test .taken) (not-false _ (c .if1 .left))
+    let s : tie.Start Inv-loop μ-loop = search in
+    let t : tie.In-loop Inv-loop μ-loop = search in
+    let read : tie.After-do-row Inv-loop μ-loop = search in
+    dos-more (s .pre .0) (t .before .loop .inv) _ (read .do-row .ensures) (t .loop-test .taken) (not-false _ (c .if1 .left))
 
 same-length-2 : tie.Need-same-length-2 Inv-loop μ-loop
 same-length-2 c = search needs

@@ -20,15 +20,23 @@ Inv-loop s at kind list₀ i₀ least₀ n₀ list i least n = EntriesRead (line
 abbrev μ-loop : tie.MeasureT-loop
 μ-loop s at kind list₀ i₀ least₀ n₀ list i least n = length s - n
 
+-- where the loop's turn begins, and where its line was read
+abbrev turn : tie.Else1 Inv-loop μ-loop → tie.At-loop Inv-loop μ-loop
+turn c = search
+
+abbrev read : tie.Else1 Inv-loop μ-loop → tie.After-entry-at Inv-loop μ-loop
+read c = search
+
 -- the entry that a line names lies in the list
-inside : (c : tie.After-struct-known2 Inv-loop μ-loop) → c .before .before .before .entry-at .result .key < length (c .before .before .before .before .before .loop .list)
+inside : (c : tie.Else1 Inv-loop μ-loop) → read c .entry-at .result .key < length (turn c .loop .list)
 inside c =
-    let a = c .before .before .before .before .before .before .before .before .args in
-    let e = c .before .before .before .entry-at .ensures in
-    let i = c .before .before .before .before .before .loop .i in
-    let ok : lineOf (a .kind) (a .s .now) i .ok ≡ true = ap (λ (e : Entry). e .ok) (sym e) ∙ and-left _ _ (not-false _ (c .before .if1 .left)) in
-    let k : c .before .before .before .entry-at .result .key < sizeOf (a .kind) = rw e (kind-inside (a .kind) (a .s .now) i ok) in
-    omega (arith, c .before .before .before .before .before .before .before .before .pre .1, c .before .before .before .before .before .loop .inv .long)
+    let s : tie.Start Inv-loop μ-loop = search in
+    let a = s .args in
+    let e = read c .entry-at .ensures in
+    let i = turn c .loop .i in
+    let ok : lineOf (a .kind) (a .s .now) i .ok ≡ true = ap (λ (e : Entry). e .ok) (sym e) ∙ and-left _ _ (not-false _ (c .if1 .left)) in
+    let k : read c .entry-at .result .key < sizeOf (a .kind) = rw e (kind-inside (a .kind) (a .s .now) i ok) in
+    omega (arith, s .pre .1, turn c .loop .inv .long)
 
 loop-holds : tie.Need-loop-holds Inv-loop μ-loop
 loop-holds c = entries-none _ _ _ _
@@ -41,20 +49,23 @@ same-length c = search needs
 
 returns : tie.Need-returns Inv-loop μ-loop
 returns c =
-    (entries-stop (c .before .before .before .before .loop .inv) (c .before .before .before .loop-test .taken) _ (c .before .before .entry-at .ensures) (not-true _ (c .if1 .taken)), c .before .before .before .before .loop .inv .few)
+    let t : tie.In-loop Inv-loop μ-loop = search in
+    let e : tie.After-entry-at Inv-loop μ-loop = search in
+    let inv = t .before .loop .inv in
+    (entries-stop inv (t .loop-test .taken) _ (e .entry-at .ensures) (not-true _ (c .if1 .taken)), inv .few)
 
 cast-list : tie.Need-cast-list Inv-loop μ-loop
 cast-list c =
-    let a = c .before .before .before .before .before .before .before .before .args in
-    let e = c .before .before .before .entry-at in
-    let below : e .result .value < 256 = rw (e .ensures) (kind-byte (a .kind) (a .s .now) (c .before .before .before .before .before .loop .i)) in
+    let s : tie.Start Inv-loop μ-loop = search in
+    let e = read (c .before) .entry-at in
+    let below : e .result .value < 256 = rw (e .ensures) (kind-byte (s .args .kind) (s .args .s .now) (turn (c .before) .loop .i)) in
     omega arith
 
 slice-write-list : tie.Need-slice-write-list Inv-loop μ-loop
-slice-write-list c = omega (arith, inside c)
+slice-write-list c = omega (arith, inside (c .before))
 
 add-least : tie.Need-add-least Inv-loop μ-loop
-add-least c = omega (arith, inside c, c .before .before .before .before .before .before .before .before .good)
+add-least c = let s : tie.Start Inv-loop μ-loop = search in omega (arith, inside (c .before), s .good)
 
 add-n : tie.Need-add-n Inv-loop μ-loop
 add-n c = search needs
@@ -64,7 +75,9 @@ loop-less c = search needs
 
 loop-again : tie.Need-loop-again Inv-loop μ-loop
 loop-again c =
-    entries-more (c .before .before .before .before .before .loop .inv) (c .before .before .before .before .loop-test .taken) _ (c .before .before .before .entry-at .ensures) (not-false _ (c .before .if1 .left))
+    let t : tie.In-loop Inv-loop μ-loop = search in
+    let e : tie.After-entry-at Inv-loop μ-loop = search in
+    entries-more (t .before .loop .inv) (t .loop-test .taken) _ (e .entry-at .ensures) (not-false _ (c .before .if1 .left))
 
 same-length-2 : tie.Need-same-length-2 Inv-loop μ-loop
 same-length-2 c = search needs

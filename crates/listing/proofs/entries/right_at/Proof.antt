@@ -6,13 +6,16 @@ use borrow.Author.Needs.{needs}
 use Rattle.listing.proofs.entries.right_at.Statement.{statement}
 use Rattle.listing.proofs.entries.right_at.Tie as tie
 
+abbrev start : tie.After-v → tie.Start
+start c = search
+
 -- cell and division are so small that the entry's number fits
-small : (c : tie.After-v) → field (c .before .right-row .result) 0 * c .before .before .before .args .m + field (c .before .right-row .result) 1 ≤ 8224
+small : (c : tie.After-v) → field (c .before .right-row .result) 0 * start c .args .m + field (c .before .right-row .result) 1 ≤ 8224
 small c =
-    let asked = c .before .before .before .pre in
+    let asked = start c .pre in
     let r = c .before .right-row in
     let few : FewNamed (r .result) = rw (r .ensures) (right-few _ _ _ _ (asked .0) (asked .1)) in
-    omega (arith, few .1, product-small (field (r .result) 0) (c .before .before .before .args .m) (few .0) (asked .1))
+    omega (arith, few .1, product-small (field (r .result) 0) (start c .args .m) (few .0) (asked .1))
 
 right-row-requires : tie.Need-right-row-requires
 right-row-requires c κs = search needs

@@ -20,15 +20,23 @@ Inv-loop s at n m list₀ i₀ least₀ k₀ list i least k = EntriesRead (grant
 abbrev μ-loop : tie.MeasureT-loop
 μ-loop s at n m list₀ i₀ least₀ k₀ list i least k = length s - k
 
+-- where the loop's turn begins, and where its line was read
+abbrev turn : tie.Else1 Inv-loop μ-loop → tie.At-loop Inv-loop μ-loop
+turn c = search
+
+abbrev read : tie.Else1 Inv-loop μ-loop → tie.After-grant-at Inv-loop μ-loop
+read c = search
+
 -- the entry that a line names lies in the list
-inside : (c : tie.Else1 Inv-loop μ-loop) → c .before .before .grant-at .result .key < length (c .before .before .before .before .loop .list)
+inside : (c : tie.Else1 Inv-loop μ-loop) → read c .grant-at .result .key < length (turn c .loop .list)
 inside c =
-    let a = c .before .before .before .before .before .before .before .args in
-    let e = c .before .before .grant-at .ensures in
-    let i = c .before .before .before .before .loop .i in
+    let s : tie.Start Inv-loop μ-loop = search in
+    let a = s .args in
+    let e = read c .grant-at .ensures in
+    let i = turn c .loop .i in
     let ok : grantAt (a .n) (a .m) (a .s .now) i .ok ≡ true = ap (λ (e : Entry). e .ok) (sym e) ∙ and-left _ _ (not-false _ (c .if1 .left)) in
-    let k : c .before .before .grant-at .result .key < a .n * a .m = rw e (grant-inside (a .n) (a .m) (a .s .now) i ok) in
-    omega (arith, c .before .before .before .before .before .before .before .pre .3, c .before .before .before .before .loop .inv .long)
+    let k : read c .grant-at .result .key < a .n * a .m = rw e (grant-inside (a .n) (a .m) (a .s .now) i ok) in
+    omega (arith, s .pre .3, turn c .loop .inv .long)
 
 loop-holds : tie.Need-loop-holds Inv-loop μ-loop
 loop-holds c = entries-none _ _ _ _
@@ -41,7 +49,10 @@ same-length c = search needs
 
 returns : tie.Need-returns Inv-loop μ-loop
 returns c =
-    (entries-stop (c .before .before .before .before .loop .inv) (c .before .before .before .loop-test .taken) _ (c .before .before .grant-at .ensures) (not-true _ (c .if1 .taken)), c .before .before .before .before .loop .inv .few)
+    let t : tie.In-loop Inv-loop μ-loop = search in
+    let e : tie.After-grant-at Inv-loop μ-loop = search in
+    let inv = t .before .loop .inv in
+    (entries-stop inv (t .loop-test .taken) _ (e .grant-at .ensures) (not-true _ (c .if1 .taken)), inv .few)
 
 mul-list : tie.Need-mul-list Inv-loop μ-loop
 mul-list c = omega (arith, inside c)
@@ -50,7 +61,7 @@ slice-write-list : tie.Need-slice-write-list Inv-loop μ-loop
 slice-write-list c = omega (arith, inside c)
 
 add-least : tie.Need-add-least Inv-loop μ-loop
-add-least c = omega (arith, inside c, c .before .before .before .before .before .before .before .good)
+add-least c = let s : tie.Start Inv-loop μ-loop = search in omega (arith, inside c, s .good)
 
 add-k : tie.Need-add-k Inv-loop μ-loop
 add-k c = search needs
@@ -60,7 +71,8 @@ loop-less c = search needs
 
 loop-again : tie.Need-loop-again Inv-loop μ-loop
 loop-again c =
-    entries-more (c .before .before .before .before .loop .inv) (c .before .before .before .loop-test .taken) _ (c .before .before .grant-at .ensures) (not-false _ (c .if1 .left))
+    let t : tie.In-loop Inv-loop μ-loop = search in
+    entries-more (t .before .loop .inv) (t .loop-test .taken) _ (read c .grant-at .ensures) (not-false _ (c .if1 .left))
 
 same-length-2 : tie.Need-same-length-2 Inv-loop μ-loop
 same-length-2 c = search needs

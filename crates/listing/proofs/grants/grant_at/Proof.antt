@@ -6,22 +6,25 @@ use borrow.Author.Needs.{needs}
 use Rattle.listing.proofs.grants.grant_at.Statement.{statement}
 use Rattle.listing.proofs.grants.grant_at.Tie as tie
 
+abbrev start : tie.After-v → tie.Start
+start c = search
+
 -- cell and division are so small that the entry's number fits
-small : (c : tie.After-v) → field (c .before .grant-row .result) 0 * c .before .before .before .args .m + field (c .before .grant-row .result) 1 ≤ 8224
+small : (c : tie.After-v) → field (c .before .grant-row .result) 0 * start c .args .m + field (c .before .grant-row .result) 1 ≤ 8224
 small c =
-    let asked = c .before .before .before .pre in
+    let asked = start c .pre in
     let r = c .before .grant-row in
     let few : FewNamed (r .result) = rw (r .ensures) (grant-few _ _ _ _ (asked .0) (asked .2)) in
-    omega (arith, few .1, product-small (field (r .result) 0) (c .before .before .before .args .m) (few .0) (asked .2))
+    omega (arith, few .1, product-small (field (r .result) 0) (start c .args .m) (few .0) (asked .2))
 
 -- target and rights are so small that the entry fits
 narrow : (c : tie.After-v) → field (c .before .grant-row .result) 2 + 256 * field (c .before .grant-row .result) 3 ≤ 2047
 narrow c =
-    let asked = c .before .before .before .pre in
+    let s : tie.Start = search in
     let r = c .before .grant-row in
-    let target : field (r .result) 2 < c .before .before .before .args .m = rw (r .ensures) (target-below _ _ _ _ (asked .1)) in
+    let target : field (r .result) 2 < s .args .m = rw (r .ensures) (target-below _ _ _ _ (s .pre .1)) in
     let rights : field (r .result) 3 < 8 = rw (r .ensures) (grant-below _ _ _ _) in
-    omega (arith, asked .2)
+    omega (arith, s .pre .2)
 
 grant-row-requires : tie.Need-grant-row-requires
 grant-row-requires c κs = search needs

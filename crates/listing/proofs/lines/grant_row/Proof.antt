@@ -23,7 +23,11 @@ within-requires-4 c κs = search needs
 
 returns : tie.Need-returns
 unfolding grantRow
-returns c = rw (c .within4 .ensures, c .before .within3 .ensures, c .before .before .within2 .ensures, c .before .before .before .within .ensures, c .before .before .before .before .row-at .ensures)
+returns c =
+    let one : tie.After-within = search in
+    let two : tie.After-within2 = search in
+    let three : tie.After-within3 = search in
+    rw (c .within4 .ensures, three .within3 .ensures, two .within2 .ensures, one .within .ensures, one .before .row-at .ensures)
 
 pub grant-row-spec : {M : Type 1} → statement M
 grant-row-spec =

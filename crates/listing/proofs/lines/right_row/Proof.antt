@@ -20,7 +20,10 @@ within-requires-3 c κs = search needs
 
 returns : tie.Need-returns
 unfolding rightRow
-returns c = rw (c .within3 .ensures, c .before .within2 .ensures, c .before .before .within .ensures, c .before .before .before .row-at .ensures)
+returns c =
+    let one : tie.After-within = search in
+    let two : tie.After-within2 = search in
+    rw (c .within3 .ensures, two .within2 .ensures, one .within .ensures, one .before .row-at .ensures)
 
 pub right-row-spec : {M : Type 1} → statement M
 right-row-spec =

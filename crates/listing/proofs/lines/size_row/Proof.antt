@@ -17,7 +17,9 @@ within-requires-2 c κs = search needs
 
 returns : tie.Need-returns
 unfolding sizeRow
-returns c = rw (c .within2 .ensures, c .before .within .ensures, c .before .before .row-at .ensures)
+returns c =
+    let one : tie.After-within = search in
+    rw (c .within2 .ensures, one .within .ensures, one .before .row-at .ensures)
 
 pub size-row-spec : {M : Type 1} → statement M
 size-row-spec =

@@ -51,12 +51,14 @@ loop-less c = search needs
 loop-again : tie.Need-loop-again Inv-loop μ-loop
 unfolding answerOf
 loop-again c =
-    let l = c .before .before .before .before .before .before .before .before .loop in
-    let asked = c .before .before .before .before .before .before .before .before .before .before .before .before .pre in
-    let k = c .before .before .before .before .before .before .before .loop-test .taken in
-    let room : l .i + 40 ≤ length (l .out) = omega (arith, l .inv .short, l .inv .long, asked .3) in
-    let p = row-put answerWord _ 3 (omega arith) room (c .before .before .put-row .ensures .0) in
-    lined-more (l .inv) k p (answer-short (l .k + 1) _ _ (omega (arith, asked .0)) p)
+    let s : tie.Start Inv-loop μ-loop = search in
+    let t : tie.In-loop Inv-loop μ-loop = search in
+    let done : tie.After-put-row Inv-loop μ-loop = search in
+    let l = t .before .loop in
+    let k = t .loop-test .taken in
+    let room : l .i + 40 ≤ length (l .out) = omega (arith, l .inv .short, l .inv .long, s .pre .3) in
+    let p = row-put answerWord _ 3 (omega arith) room (done .put-row .ensures .0) in
+    lined-more (l .inv) k p (answer-short (l .k + 1) _ _ (omega (arith, s .pre .0)) p)
 
 same-length : tie.Need-same-length Inv-loop μ-loop
 same-length c = search needs

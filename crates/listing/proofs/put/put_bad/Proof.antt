@@ -18,9 +18,10 @@ same-length c = search needs
 
 returns : tie.Need-returns
 returns c =
-    let p = c .before .before .put-row .ensures .0 in
-    let a = c .before .before .before .before .before .before .args in
-    let room : a .at + 15 ≤ length (a .out .now) = c .before .before .before .before .before .before .pre in
+    let s : tie.Start = search in
+    let done : tie.After-put-row = search in
+    let p = done .put-row .ensures .0 in
+    let room : s .args .at + 15 ≤ length (s .args .out .now) = s .pre in
     (row-put badWord _ 1 (omega arith) room p, row-short badWord _ 1 (omega arith) room p)
 
 pub put-bad-spec : {M : Type 1} → statement M

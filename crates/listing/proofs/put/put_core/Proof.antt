@@ -20,9 +20,10 @@ same-length c = search needs
 returns : tie.Need-returns
 unfolding coreLine
 returns c =
-    let p = c .before .before .put-row .ensures .0 in
-    let a = c .before .before .before .before .before .before .args in
-    let room : a .at + 38 ≤ length (a .out .now) = c .before .before .before .before .before .before .pre in
+    let s : tie.Start = search in
+    let done : tie.After-put-row = search in
+    let p = done .put-row .ensures .0 in
+    let room : s .args .at + 38 ≤ length (s .args .out .now) = s .pre in
     (row-put coreWord _ 3 (omega arith) room p, row-short coreWord _ 3 (omega arith) room p)
 
 pub put-core-spec : {M : Type 1} → statement M

@@ -27,7 +27,8 @@ wide-entry-requires c κs = search needs
 
 returns : tie.Need-returns
 returns c =
-    let a = c .before .before .before .before .before .args in
+    let s : tie.Start = search in
+    let a = s .args in
     (rw (no-grant (a .m) (a .grants .now) (a .e) _ (c .before .wide-entry .ensures .0) (c .if1 .taken)) (put-nothing _ _), omega arith)
 
 slice-aggregate-put-row : tie.Need-slice-aggregate-put-row
@@ -37,13 +38,13 @@ div-t8 : tie.Need-div-t8
 div-t8 c = search needs
 
 cast-t16 : tie.Need-cast-t16
-cast-t16 c = omega (arith, cell-small (c .before .before .before .before .before .before .before))
+cast-t16 c = let s : tie.Start = search in omega (arith, cell-small s)
 
 rem-t17 : tie.Need-rem-t17
 rem-t17 c = search needs
 
 cast-t18 : tie.Need-cast-t18
-cast-t18 c = omega (arith, division-small (c .before .before .before .before .before .before .before))
+cast-t18 c = let s : tie.Start = search in omega (arith, division-small s)
 
 put-row-requires : tie.Need-put-row-requires
 put-row-requires c κs = search needs
@@ -53,12 +54,15 @@ same-length c = search needs
 
 returns-2 : tie.Need-returns-2
 returns-2 c =
-    let h = c .before .before .before .before .before .before .wide-entry in
-    let a = c .before .before .before .before .before .before .before .before .before .before in
-    let room : a .args .at + 50 ≤ length (a .args .out .now) = a .pre .4 in
-    let p = row-put grantWord _ 4 (omega arith) room (c .before .before .put-row .ensures .0) in (
-      rw (some-grant (a .args .m) (a .args .grants .now) (a .args .e) _ (h .ensures .0) (c .before .before .before .before .before .if1 .left)) p,
-      grant-short _ _ _ _ (cell-small a) (division-small a) (omega (arith, h .ensures .1)) (omega (arith, h .ensures .1)) p,
+    let s : tie.Start = search in
+    let there : tie.Else1 = search in
+    let done : tie.After-put-row = search in
+    let a = s .args in
+    let h = there .before .wide-entry .ensures in
+    let room : a .at + 50 ≤ length (a .out .now) = s .pre .4 in
+    let p = row-put grantWord _ 4 (omega arith) room (done .put-row .ensures .0) in (
+      rw (some-grant (a .m) (a .grants .now) (a .e) _ (h .0) (there .if1 .left)) p,
+      grant-short _ _ _ _ (cell-small s) (division-small s) (omega (arith, h .1)) (omega (arith, h .1)) p,
     )
 
 pub put-grant-spec : {M : Type 1} → statement M

@@ -18,8 +18,10 @@ same-length c = search needs
 
 returns : tie.Need-returns
 returns c =
-    let p = c .before .before .put-row .ensures .0 in
-    let room : 17 ≤ length (c .before .before .before .before .before .before .args .out .now) = c .before .before .before .before .before .before .pre in
+    let s : tie.Start = search in
+    let done : tie.After-put-row = search in
+    let p = done .put-row .ensures .0 in
+    let room : 17 ≤ length (s .args .out .now) = s .pre in
     (row-put cellsWord _ 1 (omega arith) room p, row-short cellsWord _ 1 (omega arith) room p)
 
 pub put-head-spec : {M : Type 1} → statement M

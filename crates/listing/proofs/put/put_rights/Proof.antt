@@ -18,9 +18,11 @@ loop-holds c = lined-none _ _ _ _ _
 
 put-right-requires : tie.Need-put-right-requires Inv-loop μ-loop
 put-right-requires c κs =
-    let asked = c .before .before .before .before .before .pre in
-    let e = c .before .loop-test .taken in
-    let inv = c .before .before .loop .inv in
+    let s : tie.Start Inv-loop μ-loop = search in
+    let t : tie.In-loop Inv-loop μ-loop = search in
+    let asked = s .pre in
+    let e = t .loop-test .taken in
+    let inv = t .before .loop .inv in
     (asked .0, asked .1, omega (arith, asked .2), omega arith, omega (arith, inv .short, inv .long, asked .3))
 
 add-e : tie.Need-add-e Inv-loop μ-loop
@@ -31,8 +33,9 @@ loop-less c = search needs
 
 loop-again : tie.Need-loop-again Inv-loop μ-loop
 loop-again c =
-    let put = c .before .before .put-right in
-    lined-more (c .before .before .before .before .before .loop .inv) (c .before .before .before .before .loop-test .taken) (put .ensures .0) (put .ensures .1)
+    let t : tie.In-loop Inv-loop μ-loop = search in
+    let done : tie.After-put-right Inv-loop μ-loop = search in
+    lined-more (t .before .loop .inv) (t .loop-test .taken) (done .put-right .ensures .0) (done .put-right .ensures .1)
 
 same-length : tie.Need-same-length Inv-loop μ-loop
 same-length c = search needs

@@ -20,12 +20,14 @@ same-length c = search needs
 returns : tie.Need-returns
 unfolding stateLines
 returns c =
-    let core = c .before .before .before .before .before .before .before .before .before .before .put-core in
-    let rights = c .before .before .before .before .before .before .put-rights in
-    let grants = c .before .before .put-grants in (
-      put-then (put-then (core .ensures .0) (rights .ensures .0)) (grants .ensures .0),
-      omega (arith, core .ensures .1, rights .ensures .1, grants .ensures .1, c .before .before .before .before .before .before .before .before .before .before .before .before .before .before .before .pre .2, c .before .before .before .before .before .before .before .before .before .before .before .before .before .before .before .pre .3),
-    )
+    let s : tie.Start = search in
+    let core : tie.After-put-core = search in
+    let rights : tie.After-put-rights = search in
+    let grants : tie.After-put-grants = search in
+    let a = core .put-core .ensures in
+    let b = rights .put-rights .ensures in
+    let d = grants .put-grants .ensures in
+    (put-then (put-then (a .0) (b .0)) (d .0), omega (arith, a .1, b .1, d .1, s .pre .2, s .pre .3))
 
 pub put-state-spec : {M : Type 1} → statement M
 put-state-spec =

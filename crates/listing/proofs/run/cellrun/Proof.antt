@@ -10,8 +10,20 @@ use borrow.Author.Needs.{needs}
 use Rattle.listing.proofs.run.cellrun.Statement.{statement}
 use Rattle.listing.proofs.run.cellrun.Tie as tie
 
+-- from the size line back to the head line, to where `cells 1` was written, and to where room was found
+abbrev head-read : tie.After-size-row → tie.After-head-row
+head-read c = search
+
+abbrev head-put : tie.After-head-row → tie.After-put-head
+head-put c = search
+
+abbrev room-found : tie.After-put-head → tie.Else1
+room-found c = search
+
 returns : tie.Need-returns
-returns c = (rw (← nothing-written _ _ (c .if1 .taken)) (put-nothing _ 0), (omega arith, sym (length-take 0 (c .before .before .before .args .out .now))))
+returns c =
+    let s : tie.Start = search in
+    (rw (← nothing-written _ _ (c .if1 .taken)) (put-nothing _ 0), (omega arith, sym (length-take 0 (s .args .out .now))))
 
 put-head-requires : tie.Need-put-head-requires
 put-head-requires c κs = search needs
@@ -24,10 +36,13 @@ same-length c = search needs
 
 returns-2 : tie.Need-returns-2
 returns-2 c =
-    let at = c .before .before .before .before .before .before .before in
-    let bad = c .before .before .put-bad in
-    ends-inside (at .before .before .if1 .left) (omega (arith, bad .ensures .1, at .put-head .ensures .1))
-    (rw (← text-long _ _ (at .before .before .if1 .left) (c .before .before .before .before .if2 .taken)) (put-then (at .put-head .ensures .0) (bad .ensures .0)))
+    let told : tie.After-put-bad = search in
+    let refused : tie.Then2 = search in
+    let at : tie.After-put-head = search in
+    let room = room-found at .if1 .left in
+    let bad = told .put-bad .ensures in
+    ends-inside room (omega (arith, bad .1, at .put-head .ensures .1))
+    (rw (← text-long _ _ room (refused .if2 .taken)) (put-then (at .put-head .ensures .0) (bad .0)))
 
 head-row-requires : tie.Need-head-row-requires
 head-row-requires c κs = search needs
@@ -40,11 +55,15 @@ same-length-2 c = search needs
 
 returns-3 : tie.Need-returns-3
 returns-3 c =
-    let head = c .before .before .before .before .before .before in
-    let at = head .before .before .before .before in
-    let bad = c .before .before .put-bad2 in
-    ends-inside (at .before .before .if1 .left) (omega (arith, bad .ensures .1, at .put-head .ensures .1))
-    (rw (← head-wrong _ _ (at .before .before .if1 .left) (head .before .if2 .left) _ (head .head-row .ensures) (not-true _ (c .before .before .before .before .if3 .taken))) (put-then (at .put-head .ensures .0) (bad .ensures .0)))
+    let told : tie.After-put-bad2 = search in
+    let refused : tie.Then3 = search in
+    let head : tie.After-head-row = search in
+    let at = head-put head in
+    let room = room-found at .if1 .left in
+    let bad = told .put-bad2 .ensures in
+    ends-inside room (omega (arith, bad .1, at .put-head .ensures .1))
+    (rw (← head-wrong _ _ room (head .before .if2 .left) _ (head .head-row .ensures) (not-true _ (refused .if3 .taken)))
+    (put-then (at .put-head .ensures .0) (bad .0)))
 
 size-row-requires : tie.Need-size-row-requires
 size-row-requires c κs = search needs
@@ -57,13 +76,16 @@ same-length-3 c = search needs
 
 returns-4 : tie.Need-returns-4
 returns-4 c =
-    let size = c .before .before .before .before .before .before .before in
-    let head = size .before .before .before in
-    let at = head .before .before .before .before in
-    let bad = c .before .before .put-bad3 in
-    ends-inside (at .before .before .if1 .left) (omega (arith, bad .ensures .1, at .put-head .ensures .1))
-    (rw (← size-wrong _ _ (at .before .before .if1 .left) (head .before .if2 .left) _ (head .head-row .ensures) (not-false _ (size .before .if3 .left)) _
-    (size .size-row .ensures) (not-true _ (c .before .before .before .before .if4 .taken))) (put-then (at .put-head .ensures .0) (bad .ensures .0)))
+    let told : tie.After-put-bad3 = search in
+    let refused : tie.Then4 = search in
+    let size : tie.After-size-row = search in
+    let head = head-read size in
+    let at = head-put head in
+    let room = room-found at .if1 .left in
+    let bad = told .put-bad3 .ensures in
+    ends-inside room (omega (arith, bad .1, at .put-head .ensures .1))
+    (rw (← size-wrong _ _ room (head .before .if2 .left) _ (head .head-row .ensures) (not-false _ (size .before .if3 .left)) _
+    (size .size-row .ensures) (not-true _ (refused .if4 .taken))) (put-then (at .put-head .ensures .0) (bad .0)))
 
 array-read-run-cells : tie.Need-array-read-run-cells
 array-read-run-cells c = search needs
@@ -73,16 +95,16 @@ array-read-run-cells-2 c = search needs
 
 run-cells-requires : tie.Need-run-cells-requires
 run-cells-requires c κs =
-    let size = c .before .before .before .before in
-    let head = size .before .before .before in
-    let at = head .before .before .before .before in
+    let size : tie.After-size-row = search in
+    let head = head-read size in
+    let at = head-put head in
     let e = size .size-row .ensures in
     let few = size-divisions _ _ (ap (λ (r : Row). r .ok) (sym e) ∙ not-false _ (c .before .if4 .left)) in (
       rw e (few .0),
       rw e (few .1),
       rw e (size-bytes _ _),
       omega (arith, head .before .if2 .left),
-      record { head = at .put-head .ensures .1; room = omega (arith, at .before .before .if1 .left, at .put-head .kept .0) },
+      record { head = at .put-head .ensures .1; room = omega (arith, room-found at .if1 .left, at .put-head .kept .0) },
     )
 
 same-length-4 : tie.Need-same-length-4
@@ -90,13 +112,16 @@ same-length-4 c = search needs
 
 returns-5 : tie.Need-returns-5
 returns-5 c =
-    let size = c .before .before .before .before .before .before .before in
-    let head = size .before .before .before in
-    let at = head .before .before .before .before in
-    let rest = c .before .before .run-cells in
-    ends-inside (at .before .before .if1 .left) (rest .ensures .1)
-    (rw (← size-right _ _ (at .before .before .if1 .left) (head .before .if2 .left) _ (head .head-row .ensures) (not-false _ (size .before .if3 .left)) _
-    (size .size-row .ensures) (not-false _ (c .before .before .before .before .if4 .left))) (put-then (at .put-head .ensures .0) (rest .ensures .0)))
+    let ran : tie.After-run-cells = search in
+    let passed : tie.Else4 = search in
+    let size : tie.After-size-row = search in
+    let head = head-read size in
+    let at = head-put head in
+    let room = room-found at .if1 .left in
+    let rest = ran .run-cells .ensures in
+    ends-inside room (rest .1)
+    (rw (← size-right _ _ room (head .before .if2 .left) _ (head .head-row .ensures) (not-false _ (size .before .if3 .left)) _
+    (size .size-row .ensures) (not-false _ (passed .if4 .left))) (put-then (at .put-head .ensures .0) (rest .0)))
 
 pub cellrun-spec : {M : Type 1} → statement M
 cellrun-spec =

@@ -9,9 +9,12 @@ use borrow.Author.Needs.{needs}
 use Rattle.listing.proofs.run.run_cells.Statement.{statement}
 use Rattle.listing.proofs.run.run_cells.Tie as tie
 
--- the start, from where the cell lines were read
+-- from where the rest was run back to where the cell lines were read, and to the start
+abbrev cells-read : tie.After-run-rights → tie.After-cells-at
+cells-read c = search
+
 abbrev start : tie.After-cells-at → tie.Start
-start c = c .before .before .before .before .before .before .before .before .before .before
+start c = search
 
 -- as many entries as there are cells and divisions
 entries : (c : tie.After-cells-at) → c .cells-at .result .count * start c .args .m ≤ 8192
@@ -42,76 +45,82 @@ cells-at-requires : tie.Need-cells-at-requires
 cells-at-requires c κs = search needs
 
 mul-entries : tie.Need-mul-entries
-mul-entries c = omega (arith, entries (c .before .before .before .before))
+mul-entries c = let k : tie.After-cells-at = search in omega (arith, entries k)
 
 array-share-prefix-first : tie.Need-array-share-prefix-first
 array-share-prefix-first c = search needs
 
 slice-aggregate-run-rights : tie.Need-slice-aggregate-run-rights
 slice-aggregate-run-rights c =
-    let k = c .before .before .before .before .before .cells-at in
-    sym (length-take-le _ _ (omega (arith, k .ensures .1, k .kept .1 .1 .0)))
+    let k : tie.After-cells-at = search in
+    sym (length-take-le _ _ (omega (arith, k .cells-at .ensures .1, k .cells-at .kept .1 .1 .0)))
 
 array-share-prefix-last : tie.Need-array-share-prefix-last
 array-share-prefix-last c = search needs
 
 slice-aggregate-run-rights-2 : tie.Need-slice-aggregate-run-rights-2
 slice-aggregate-run-rights-2 c =
-    let k = c .before .before .before .before .before .before .cells-at in
-    sym (length-take-le _ _ (omega (arith, k .ensures .1, k .kept .1 .1 .1 .0)))
+    let k : tie.After-cells-at = search in
+    sym (length-take-le _ _ (omega (arith, k .cells-at .ensures .1, k .cells-at .kept .1 .1 .1 .0)))
 
 array-share-prefix-offset : tie.Need-array-share-prefix-offset
 array-share-prefix-offset c = search needs
 
 slice-aggregate-run-rights-3 : tie.Need-slice-aggregate-run-rights-3
 slice-aggregate-run-rights-3 c =
-    let k = c .before .before .before .before .before .before .before .cells-at in
-    sym (length-take-le _ _ (omega (arith, k .ensures .1, k .kept .1 .1 .1 .1 .0)))
+    let k : tie.After-cells-at = search in
+    sym (length-take-le _ _ (omega (arith, k .cells-at .ensures .1, k .cells-at .kept .1 .1 .1 .1 .0)))
 
 array-borrow-prefix-marks : tie.Need-array-borrow-prefix-marks
 array-borrow-prefix-marks c = search needs
 
 slice-aggregate-run-rights-4 : tie.Need-slice-aggregate-run-rights-4
 slice-aggregate-run-rights-4 c =
-    let k = c .before .before .before .before .before .before .before .before .cells-at in
-    sym (length-take-le _ _ (omega (arith, k .ensures .1, k .kept .1 .1 .1 .1 .1 .0)))
+    let k : tie.After-cells-at = search in
+    sym (length-take-le _ _ (omega (arith, k .cells-at .ensures .1, k .cells-at .kept .1 .1 .1 .1 .1 .0)))
 
 array-borrow-prefix-rights : tie.Need-array-borrow-prefix-rights
-array-borrow-prefix-rights c = omega (arith, entries (c .before .before .before .before .before .before .before .before))
+array-borrow-prefix-rights c = let k : tie.After-cells-at = search in omega (arith, entries k)
 
 slice-aggregate-run-rights-5 : tie.Need-slice-aggregate-run-rights-5
 slice-aggregate-run-rights-5 c =
-    let k = c .before .before .before .before .before .before .before .before .before in
-    rw (k .before .before .before .before .before .before .before .no-rights .ensures) (part-long _ 8192 (entries k))
+    let k : tie.After-cells-at = search in
+    let zeros : tie.After-no-rights = search in
+    rw (zeros .no-rights .ensures) (part-long _ 8192 (entries k))
 
 array-borrow-prefix-grants : tie.Need-array-borrow-prefix-grants
-array-borrow-prefix-grants c = omega (arith, entries (c .before .before .before .before .before .before .before .before .before))
+array-borrow-prefix-grants c = let k : tie.After-cells-at = search in omega (arith, entries k)
 
 slice-aggregate-run-rights-6 : tie.Need-slice-aggregate-run-rights-6
 slice-aggregate-run-rights-6 c =
-    let k = c .before .before .before .before .before .before .before .before .before .before in
-    rw (k .before .before .before .before .before .before .no-grants .ensures) (part-long _ 8192 (entries k))
+    let k : tie.After-cells-at = search in
+    let zeros : tie.After-no-grants = search in
+    rw (zeros .no-grants .ensures) (part-long _ 8192 (entries k))
 
 array-borrow-prefix-memory : tie.Need-array-borrow-prefix-memory
 array-borrow-prefix-memory c = search needs
 
 slice-aggregate-run-rights-7 : tie.Need-slice-aggregate-run-rights-7
 slice-aggregate-run-rights-7 c =
-    let k = c .before .before .before .before .before .before .before .before .before .before .before in
-    rw (k .before .before .before .before .before .no-bytes .ensures) (part-long _ 65536 (start k .pre .2))
+    let k : tie.After-cells-at = search in
+    let zeros : tie.After-no-bytes = search in
+    rw (zeros .no-bytes .ensures) (part-long _ 65536 (start k .pre .2))
 
 run-rights-requires : tie.Need-run-rights-requires
 run-rights-requires c κs =
-    let k = c .before .before .before .before .before .before .before .before .before .before .before .before in
+    let k : tie.After-cells-at = search in
+    let bytes : tie.After-no-bytes = search in
+    let grants : tie.After-no-grants = search in
+    let rights : tie.After-no-rights = search in
     let a = start k .pre in
     let n = k .cells-at .result .count in
     let first = k .cells-at .last .1 .1 .0 in
     let long : length (take n first) ≡ n = length-take-le n first (omega (arith, k .cells-at .ensures .1, k .cells-at .kept .1 .1 .0)) in (
       (a .0, a .1, a .2, omega (arith, k .cells-at .ensures .1), a .3, a .4),
       (
-        rw (long, k .before .before .before .before .before .before .before .no-rights .ensures) (zeros-part _ 8192 (entries k)),
-        rw (long, k .before .before .before .before .before .before .no-grants .ensures) (zeros-part _ 8192 (entries k)),
-        rw (k .before .before .before .before .before .no-bytes .ensures) (zeros-part _ 65536 (a .2)),
+        rw (long, rights .no-rights .ensures) (zeros-part _ 8192 (entries k)),
+        rw (long, grants .no-grants .ensures) (zeros-part _ 8192 (entries k)),
+        rw (bytes .no-bytes .ensures) (zeros-part _ 65536 (a .2)),
       ),
     )
 
@@ -120,8 +129,8 @@ same-length c = search needs
 
 returns : tie.Need-returns
 returns c =
-    let ran = c .before .before .before .before .before .before in
-    (rw (ran .before .before .before .before .before .before .before .before .before .before .before .before .before .cells-at .ensures .0) (ran .run-rights .ensures .0), ran .run-rights .ensures .1)
+    let ran : tie.After-run-rights = search in
+    (rw (cells-read ran .cells-at .ensures .0) (ran .run-rights .ensures .0), ran .run-rights .ensures .1)
 
 pub run-cells-spec : {M : Type 1} → statement M
 run-cells-spec =

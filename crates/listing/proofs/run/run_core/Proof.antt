@@ -5,7 +5,7 @@ use lib.ListN.{length, take}
 use lib.Seq.{length-take-le}
 use borrow.Author.Tests.{not-true, not-false}
 use Rattle.rules.specs.Numbers.{Tables}
-use Rattle.rules.specs.Lent.{given}
+use Rattle.rules.specs.Lent.{lentOf}
 use Rattle.text.specs.declared.line.Row.{Row}
 use Rattle.listing.specs.Lines.{coreRow}
 use Rattle.listing.specs.Listing.{Dos}
@@ -13,14 +13,24 @@ use Rattle.listing.proofs.Whole.{core-wrong, dos-wrong, dos-right}
 use borrow.Author.Needs.{needs}
 use Rattle.listing.proofs.run.run_core.Statement.{statement}
 use Rattle.listing.proofs.run.run_core.Tie as tie
+use Rattle.listing.proofs.run.run_core.Lts as lts
 
+-- the tables, which stand behind the text, the place and the line
 abbrev lent : tie.Start → Tables
-lent c =
-    given (c .args .m) (c .args .first) (c .args .last) (c .args .offset) (c .args .marks) (c .args .rights) (c .args .grants) (c .args .memory)
+lent c = lentOf (lts.dens _ _ _ _ (c .args) .1 .1 .1)
 
--- the start, from where the core line was read
+-- from where the instructions were run back to where the text ended, to the do lines, to the core line, and to the start
+abbrev text-ended : tie.After-run-instructions → tie.Else2
+text-ended c = search
+
+abbrev dos-read : tie.Else2 → tie.After-dos-at
+dos-read c = search
+
+abbrev core-read : tie.After-dos-at → tie.After-core-row
+core-read c = search
+
 abbrev start : tie.After-core-row → tie.Start
-start c = c .before .before .before .before .before .before .before .before .before .before
+start c = search
 
 -- the do lines that `dos_at` answered and left
 abbrev done : tie.After-dos-at → Dos
@@ -33,7 +43,9 @@ done c =
 
 -- the numbers of the do lines lie in their list
 inside : (c : tie.After-dos-at) → 4 * c .dos-at .result .count ≤ length (c .dos-at .last .1 .1 .0)
-inside c = omega (arith, c .dos-at .ensures .1, c .dos-at .kept .1 .1 .0, c .before .before .room-for-instructions .ensures)
+inside c =
+    let list : tie.After-room-for-instructions = search in
+    omega (arith, c .dos-at .ensures .1, c .dos-at .kept .1 .1 .0, list .room-for-instructions .ensures)
 
 core-row-requires : tie.Need-core-row-requires
 core-row-requires c κs = search needs
@@ -52,12 +64,14 @@ same-length c = search needs
 
 returns : tie.Need-returns
 returns c =
-    let core = c .before .before .before .before .before .before .before in
-    let a = start core in
-    let bad = c .before .before .put-bad in
-    let wrong = ap (λ (r : Row). r .ok) (sym (core .core-row .ensures)) ∙ not-true _ (c .before .before .before .before .if1 .taken) in (
-      rw (← core-wrong (a .args .s .now) (a .args .line) (lent a) (coreRow (a .args .s .now) (a .args .next)) wrong) (bad .ensures .0),
-      omega (arith, bad .ensures .1, a .pre .6 .head),
+    let bad : tie.After-put-bad = search in
+    let refused : tie.Then1 = search in
+    let core : tie.After-core-row = search in
+    let s = start core in
+    let a = s .args in
+    let wrong = ap (λ (r : Row). r .ok) (sym (core .core-row .ensures)) ∙ not-true _ (refused .if1 .taken) in (
+      rw (← core-wrong (a .s .now) (a .line) (lent s) (coreRow (a .s .now) (a .next)) wrong) (bad .put-bad .ensures .0),
+      omega (arith, bad .put-bad .ensures .1, s .pre .6 .head),
     )
 
 room-for-instructions-requires : tie.Need-room-for-instructions-requires
@@ -89,17 +103,19 @@ same-length-2 c = search needs
 
 returns-2 : tie.Need-returns-2
 returns-2 c =
-    let dos = c .before .before .before .before .before .before .before in
-    let core = dos .before .before .before .before .before .before in
-    let a = start core in
-    let bad = c .before .before .put-bad2 in (
+    let bad : tie.After-put-bad2 = search in
+    let refused : tie.Then2 = search in
+    let dos : tie.After-dos-at = search in
+    let read : tie.Else1 = search in
+    let core = core-read dos in
+    let s = start core in (
       rw (
         ← core .core-row .ensures,
-        ← dos-wrong (a .args .s .now) (a .args .line) (lent a) (core .core-row .result) (not-false _ (dos .before .before .before .if1 .left)) (done dos)
-            (dos .dos-at .ensures .0) (c .before .before .before .before .if2 .taken),
+        ← dos-wrong (s .args .s .now) (s .args .line) (lent s) (core .core-row .result) (not-false _ (read .if1 .left)) (done dos)
+            (dos .dos-at .ensures .0) (refused .if2 .taken),
       )
-          (bad .ensures .0),
-      omega (arith, bad .ensures .1, a .pre .6 .head),
+          (bad .put-bad2 .ensures .0),
+      omega (arith, bad .put-bad2 .ensures .1, s .pre .6 .head),
     )
 
 mul-end : tie.Need-mul-end
@@ -124,7 +140,7 @@ array-share-prefix-list : tie.Need-array-share-prefix-list
 array-share-prefix-list c = search needs
 
 slice-aggregate-run-instructions : tie.Need-slice-aggregate-run-instructions
-slice-aggregate-run-instructions c = sym (length-take-le _ _ (inside (c .before .before .before .before .before .before .before .before .before .before)))
+slice-aggregate-run-instructions c = let dos : tie.After-dos-at = search in sym (length-take-le _ _ (inside dos))
 
 slice-aggregate-run-instructions-2 : tie.Need-slice-aggregate-run-instructions-2
 slice-aggregate-run-instructions-2 c = search needs
@@ -134,10 +150,11 @@ slice-aggregate-run-instructions-3 c = search needs
 
 run-instructions-requires : tie.Need-run-instructions-requires
 run-instructions-requires c κs =
-    let dos = c .before .before .before .before .before .before .before .before .before .before .before .before .before in
-    let asked = start (dos .before .before .before .before .before .before) .pre in
-    let rooms = c .before .before .before .before .before .before .before .before in (
-      (sym (rooms .before .room-for-answers .ensures), sym (rooms .room-for-answers2 .ensures)),
+    let values : tie.After-room-for-answers2 = search in
+    let numbers : tie.After-room-for-answers = search in
+    let dos = dos-read (numbers .before) in
+    let asked = start (core-read dos) .pre in (
+      (sym (numbers .room-for-answers .ensures), sym (values .room-for-answers2 .ensures)),
       (asked .0, asked .1, asked .2, asked .3, length-take-le _ _ (inside dos), dos .dos-at .ensures .1, asked .6),
     )
 
@@ -158,14 +175,16 @@ same-length-7 c = search needs
 
 returns-3 : tie.Need-returns-3
 returns-3 c =
-    let ran = c .before .before .before .before .before .before .before .before .before .before .before .before in
-    let dos = ran .before .before .before .before .before .before .before .before .before .before .before .before .before .before in
-    let core = dos .before .before .before .before .before .before in
-    let a = start core in (
+    let ran : tie.After-run-instructions = search in
+    let ended = text-ended ran in
+    let dos = dos-read ended in
+    let read : tie.Else1 = search in
+    let core = core-read dos in
+    let s = start core in (
       rw (
         ← core .core-row .ensures,
-        ← dos-right (a .args .s .now) (a .args .line) (lent a) (core .core-row .result) (not-false _ (dos .before .before .before .if1 .left)) (done dos)
-            (dos .dos-at .ensures .0) (ran .before .before .before .before .before .before .before .before .before .before .before .if2 .left),
+        ← dos-right (s .args .s .now) (s .args .line) (lent s) (core .core-row .result) (not-false _ (read .if1 .left)) (done dos)
+            (dos .dos-at .ensures .0) (ended .if2 .left),
       )
           (ran .run-instructions .ensures .0),
       ran .run-instructions .ensures .1,

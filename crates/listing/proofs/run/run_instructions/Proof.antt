@@ -1,27 +1,28 @@
 use native.Mathlib.Omega.{arith}
 use Rattle.rules.specs.Numbers.{State, state}
-use Rattle.rules.specs.Lent.{given}
+use Rattle.rules.specs.Lent.{lentOf}
 use Rattle.listing.proofs.Whole.{run-body}
 use borrow.Author.Needs.{needs}
 use Rattle.listing.proofs.run.run_instructions.Statement.{statement}
 use Rattle.listing.proofs.run.run_instructions.Tie as tie
+use Rattle.listing.proofs.run.run_instructions.Lts as lts
 
--- the start, from where the instructions were run
+-- from where the answers were put back to where the instructions were run, and to the start
+abbrev all-run : tie.After-put-answers → tie.After-execute-all
+all-run c = search
+
 abbrev entry : tie.After-execute-all → tie.Start
-entry c = c .before .before .before .before .before .before .before .before .before .before .before .before .before .before .before .before .before .before
+entry c = search
 
 abbrev start : tie.Start → State
-start c =
-    state
-    (given (c .args .m) (c .args .first) (c .args .last) (c .args .offset) (c .args .marks) (c .args .rights) (c .args .grants) (c .args .memory))
-    (c .args .registers)
+start c = state (lentOf (lts.dens _ _ _ _ (c .args))) (c .args .registers)
 
 execute-all-requires : tie.Need-execute-all-requires
 execute-all-requires c κs = search needs
 
 put-answers-requires : tie.Need-put-answers-requires
 put-answers-requires c κs =
-    let ran = c .before .before .before .before .before .before .before .before .before .before .before .before .before .before .before in
+    let ran : tie.After-execute-all = search in
     let asked = entry ran .pre in
     let kept = ran .execute-all .kept in (
       asked .1 .5,
@@ -32,9 +33,10 @@ put-answers-requires c κs =
 
 put-state-requires : tie.Need-put-state-requires
 put-state-requires c κs =
-    let p = c .before .before .before .before .before .put-answers in
-    let ran = c .before .before .before .before .before .before .before .before .before .before .before .before .before .before .before .before .before .before .before .before .before in
+    let told : tie.After-put-answers = search in
+    let ran = all-run told in
     let asked = entry ran .pre .1 in
+    let p = told .put-answers in
     let kept = ran .execute-all .kept in (
       asked .0,
       asked .1,
@@ -66,16 +68,19 @@ same-length-7 c = search needs
 
 returns : tie.Need-returns
 returns c =
-    let q = c .before .before .put-state in
-    let p = c .before .before .before .before .before .before .before .before .put-answers in
-    let ran = c .before .before .before .before .before .before .before .before .before .before .before .before .before .before .before .before .before .before .before .before .before .before .before .before in
+    let shown : tie.After-put-state = search in
+    let told : tie.After-put-answers = search in
+    let ran = all-run told in
+    let s = entry ran in
+    let asked = s .pre in
+    let a = s .args in
     let e = ran .execute-all in
-    let a = entry ran in
-    let asked = a .pre in (
-      run-body (start a) (a .args .instructions .now) (a .args .count) (asked .1 .4) (asked .1 .5) (e .last .1 .1 .1 .1 .1 .1 .1 .1 .1 .1 .0)
-          (e .last .1 .1 .1 .1 .1 .1 .1 .1 .1 .1 .1 .0) (a .args .numbers .now) (a .args .values .now) _ (asked .0 .0) (asked .0 .1) (e .ensures)
-          (p .ensures .0) (q .ensures .0),
-      omega (arith, p .ensures .1, q .ensures .1, asked .1 .5, asked .1 .6 .head),
+    let p = told .put-answers .ensures in
+    let q = shown .put-state .ensures in (
+      run-body (start s) (a .instructions .now) (a .count) (asked .1 .4) (asked .1 .5) (e .last .1 .1 .1 .1 .1 .1 .1 .1 .1 .1 .0)
+          (e .last .1 .1 .1 .1 .1 .1 .1 .1 .1 .1 .1 .0) (a .numbers .now) (a .values .now) _ (asked .0 .0) (asked .0 .1) (e .ensures)
+          (p .0) (q .0),
+      omega (arith, p .1, q .1, asked .1 .5, asked .1 .6 .head),
     )
 
 pub run-instructions-spec : {M : Type 1} → statement M

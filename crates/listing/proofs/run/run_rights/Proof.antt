@@ -9,16 +9,18 @@ use borrow.Author.Needs.{needs}
 use Rattle.listing.proofs.run.run_rights.Statement.{statement}
 use Rattle.listing.proofs.run.run_rights.Tie as tie
 
--- the start, from where the right lines were read
-abbrev start : tie.After-fill-bytes → tie.Start
-start c = c .before .before .before .before .before .before .before .before .before .before .before
-
--- where the right lines were read, from where the grant lines were, and these from where the byte lines were
-abbrev rights : tie.After-fill-grants → tie.After-fill-bytes
-rights c = c .before .before .before .before
+-- from where the rest was run back to where the byte lines were read, to the grant lines, to the right lines, and to the start
+abbrev bytes : tie.After-run-core → tie.After-fill-bytes2
+bytes c = search
 
 abbrev grants : tie.After-fill-bytes2 → tie.After-fill-grants
-grants c = c .before .before .before .before
+grants c = search
+
+abbrev rights : tie.After-fill-grants → tie.After-fill-bytes
+rights c = search
+
+abbrev start : tie.After-fill-bytes → tie.Start
+start c = search
 
 -- as many entries as there are cells and divisions
 entries : (c : tie.Start) → length (c .args .first .now) * c .args .m ≤ 8192
@@ -38,7 +40,7 @@ cast-fill-grants c = search needs
 
 fill-bytes-requires : tie.Need-fill-bytes-requires
 fill-bytes-requires c κs =
-    let a = c .before .before .before .before .before .before .before .before .before .before in
+    let a : tie.Start = search in
     ((a .pre .0 .3, a .pre .0 .1), rights-long a)
 
 cast-fill-grants-2 : tie.Need-cast-fill-grants-2
@@ -46,25 +48,31 @@ cast-fill-grants-2 c = search needs
 
 fill-grants-requires : tie.Need-fill-grants-requires
 fill-grants-requires c κs =
-    let a = start (c .before .before .before) in
+    let r : tie.After-fill-bytes = search in
+    let a = start r in
     (a .pre .0 .3, a .pre .0 .0, a .pre .0 .1, grants-long a)
 
 fill-bytes-requires-2 : tie.Need-fill-bytes-requires-2
 fill-bytes-requires-2 c κs =
-    let a = start (c .before .before .before .before .before .before .before) in
+    let g : tie.After-fill-grants = search in
+    let a = start (rights g) in
     (a .pre .0 .2, bytes-long a)
 
 add-line : tie.Need-add-line
-add-line c = omega (arith, start (c .before .before .before .before .before .before .before .before .before .before) .pre .0 .3)
+add-line c =
+    let b : tie.After-fill-bytes2 = search in
+    omega (arith, start (rights (grants b)) .pre .0 .3)
 
 add-line-2 : tie.Need-add-line-2
 add-line-2 c =
-    let r = c .before .before .before .before .before .before .before .before .before .before .before in
+    let b : tie.After-fill-bytes2 = search in
+    let r = rights (grants b) in
     omega (arith, start r .pre .0 .3, start r .pre .0 .4, r .fill-bytes .ensures .1)
 
 add-line-3 : tie.Need-add-line-3
 add-line-3 c =
-    let g = c .before .before .before .before .before .before .before .before in
+    let b : tie.After-fill-bytes2 = search in
+    let g = grants b in
     let r = rights g in
     omega (arith, start r .pre .0 .3, start r .pre .0 .4, r .fill-bytes .ensures .1, g .fill-grants .ensures .1)
 
@@ -79,11 +87,11 @@ few-lines b =
     (arith, start r .pre .0 .3, start r .pre .0 .4, r .fill-bytes .ensures .1, grants b .fill-grants .ensures .1, b .fill-bytes2 .ensures .1)
 
 add-line-4 : tie.Need-add-line-4
-add-line-4 c = omega (arith, few-lines (c .before .before .before .before .before))
+add-line-4 c = let b : tie.After-fill-bytes2 = search in omega (arith, few-lines b)
 
 run-core-requires : tie.Need-run-core-requires
 run-core-requires c κs =
-    let b = c .before .before .before .before .before .before .before .before .before .before in
+    let b : tie.After-fill-bytes2 = search in
     let r = rights (grants b) in
     let a = start r in (
       a .pre .0 .0,
@@ -100,8 +108,8 @@ same-length c = search needs
 
 same-length-2 : tie.Need-same-length-2
 same-length-2 c =
-    let ran = c .before .before .before .before .before .before .before .before .before .before in
-    ran .run-core .kept .1 .1 .1 .1 .1 .1 .1 .1 .0 ∙ rights (grants (ran .before .before .before .before .before .before .before .before .before .before .before)) .fill-bytes .kept .1 .1 .1 .0
+    let ran : tie.After-run-core = search in
+    ran .run-core .kept .1 .1 .1 .1 .1 .1 .1 .1 .0 ∙ rights (grants (bytes ran)) .fill-bytes .kept .1 .1 .1 .0
 
 same-length-3 : tie.Need-same-length-3
 same-length-3 c = search needs
@@ -114,8 +122,8 @@ same-length-5 c = search needs
 
 returns : tie.Need-returns
 returns c =
-    let ran = c .before .before .before .before .before .before .before .before .before .before in
-    let filled = ran .before .before .before .before .before .before .before .before .before .before .before in
+    let ran : tie.After-run-core = search in
+    let filled = bytes ran in
     let b = filled .fill-bytes2 in
     let g = grants filled .fill-grants in
     let r = rights (grants filled) .fill-bytes in

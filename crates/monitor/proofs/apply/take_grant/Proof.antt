@@ -29,13 +29,12 @@ same-length-2 c = search needs
 
 returns : tie.Need-returns
 returns c =
-    let spent = c .before .before in
-    let put = spent .before .before .before .before in
-    let joined = put .before .before in
-    let read = joined .before in (
-      rw (joined .join-of .ensures, read .before .before .held-at .ensures, read .grant-at .ensures),
-      (put .put-rights .ensures, spent .put-grant .ensures),
-    )
+    let spent : tie.After-put-grant = search in
+    let put : tie.After-put-rights = search in
+    let joined : tie.After-join-of = search in
+    let read : tie.After-grant-at = search in
+    let held : tie.After-held-at = search in
+    (rw (joined .join-of .ensures, held .held-at .ensures, read .grant-at .ensures), (put .put-rights .ensures, spent .put-grant .ensures))
 
 pub take-grant-spec : {M : Type 1} → statement M
 take-grant-spec =

@@ -2,50 +2,50 @@ use Prim.Native.Nat.{ℕ}
 use native.Mathlib.Omega.{arith}
 use borrow.Author.Needs.{needs}
 use Rattle.rules.specs.Numbers.{State, state}
-use Rattle.rules.specs.Lent.{given}
+use Rattle.rules.specs.Lent.{lentOf}
 use Rattle.rules.specs.Instructions.{place}
 use Rattle.monitor.proofs.Readiness.{CellIn, cell-in, cells-rise, entry-in-rights}
 use Rattle.monitor.proofs.Searching.{FoundAt, found-at, nowhere-uncovered}
 use Rattle.monitor.proofs.Locating.{Judged, judged, located-nowhere, located-at, located-refused}
 use Rattle.monitor.proofs.block.locate.Statement.{statement}
 use Rattle.monitor.proofs.block.locate.Tie as tie
+use Rattle.monitor.proofs.block.locate.Lts as lts
 
 abbrev st : tie.Start → State
-st c =
-    state
-    (given (c .args .m) (c .args .first) (c .args .last) (c .args .offset) (c .args .marks) (c .args .rights) (c .args .grants) (c .args .memory))
-    (c .args .registers)
-
-abbrev start : tie.After-shared-slice-known7 → tie.Start
-start c = c .before .before .before .before .before .before .before
+st c = state (lentOf (lts.dens _ _ _ _ (c .args) .1)) (c .args .registers)
 
 -- where a cell was found
 abbrev entry : tie.After-f → tie.Start
-entry c = start (c .before .before .before)
+entry c = search
 
 abbrev cell : tie.After-f → ℕ
 cell c = c .f .given .0 .0
 
 found : (c : tie.After-f) → FoundAt (st (entry c) .lent) (entry c .args .x) (cell c)
-found c = found-at (st (entry c) .lent) _ _ (c .before .before .find .ensures) _ (c .f .given .1)
+found c =
+    let searched : tie.After-find = search in
+    found-at (st (entry c) .lent) _ _ (searched .find .ensures) _ (c .f .given .1)
 
 inside : (c : tie.After-f) → CellIn (st (entry c) .lent) (cell c)
 inside c = cell-in _ (entry c .pre .sizes) _ (found c .cell .cell)
 
 -- where the judge has answered
 abbrev found-before : tie.After-judge-whole → tie.After-f
-found-before c = c .before .before .before .before .before .before .before
+found-before c = search
 
 answered : (c : tie.After-judge-whole)
     → Judged (entry (found-before c) .args .needed) (st (entry (found-before c))) (entry (found-before c) .args .x)
     (entry (found-before c) .args .n) (cell (found-before c)) (c .judge-whole .result)
 answered c =
     let f = found-before c in
-    judged _ (st (entry f)) _ _ _ _ _ _ (found f) (c .before .within-cell .ensures)
-    (c .before .before .before .before .held-at .ensures) (c .judge-whole .ensures)
+    let held : tie.After-held-at = search in
+    let within : tie.After-within-cell = search in
+    judged _ (st (entry f)) _ _ _ _ _ _ (found f) (within .within-cell .ensures) (held .held-at .ensures) (c .judge-whole .ensures)
 
 find-requires : tie.Need-find-requires
-find-requires c κs = cells-rise (st (start c) .lent) (start c .pre .sizes) (start c .pre .sound)
+find-requires c κs =
+    let s : tie.Start = search in
+    cells-rise (st s .lent) (s .pre .sizes) (s .pre .sound)
 
 enum-told : tie.Need-enum-told
 enum-told c = search needs
@@ -58,17 +58,23 @@ cast-held-at c = search needs
 
 held-at-requires : tie.Need-held-at-requires
 held-at-requires c κs =
-    let f = c .before .before in
+    let f : tie.After-f = search in
     entry-in-rights (st (entry f) .lent) (entry f .pre .sizes) (cell f) (found f .cell .cell) _ (entry f .pre .current)
 
 shared-slice-read-judge-whole : tie.Need-shared-slice-read-judge-whole
-shared-slice-read-judge-whole c = inside (c .before .before .before .before) .marked
+shared-slice-read-judge-whole c =
+    let f : tie.After-f = search in
+    inside f .marked
 
 mul-within-cell : tie.Need-mul-within-cell
-mul-within-cell c = omega (arith, inside (c .before .before .before .before) .lasts)
+mul-within-cell c =
+    let f : tie.After-f = search in
+    omega (arith, inside f .lasts)
 
 shared-slice-read-within-cell : tie.Need-shared-slice-read-within-cell
-shared-slice-read-within-cell c = inside (c .before .before .before .before .before) .lasts
+shared-slice-read-within-cell c =
+    let f : tie.After-f = search in
+    inside f .lasts
 
 within-cell-requires : tie.Need-within-cell-requires
 within-cell-requires c κs = search needs
@@ -78,17 +84,21 @@ judge-whole-requires c κs = search needs
 
 place-of-requires : tie.Need-place-of-requires
 place-of-requires c κs =
-    let f = found-before (c .before) in
+    let f : tie.After-f = search in
     (inside f .firsts, (inside f .offsets, found f .cell .from))
 
 returns : tie.Need-returns
 returns c =
-    let told = c .before .before in
-    located-nowhere _ _ _ _ (nowhere-uncovered (st (start (told .before)) .lent) _ _ (told .find .ensures) (c .enum-told .given .1))
+    let s : tie.Start = search in
+    let told : tie.After-find = search in
+    located-nowhere _ _ _ _ (nowhere-uncovered (st s .lent) _ _ (told .find .ensures) (c .enum-told .given .1))
 
 returns-2 : tie.Need-returns-2
 unfolding place
-returns-2 c = located-at (answered (c .before .before)) _ (c .before .if1 .taken) (c .place-of .ensures)
+returns-2 c =
+    let judged : tie.After-judge-whole = search in
+    let accepted : tie.Then1 = search in
+    located-at (answered judged) _ (accepted .if1 .taken) (c .place-of .ensures)
 
 returns-3 : tie.Need-returns-3
 returns-3 c = located-refused (answered (c .before)) (c .if1 .left)

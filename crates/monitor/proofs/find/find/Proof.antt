@@ -17,16 +17,21 @@ abbrev μ-loop : tie.MeasureT-loop
 μ-loop first last x ended₀ i₀ ended i = length last - i
 
 -- the cell that is looked at is one
-its-cell : (c : tie.In-loop Inv-loop μ-loop) → c .before .loop .i < length (c .before .before .args .first .now)
-its-cell c = omega (arith, c .before .before .pre .lasts)
+abbrev start : tie.In-loop Inv-loop μ-loop → tie.Start Inv-loop μ-loop
+start c = search
+
+its-cell : (c : tie.In-loop Inv-loop μ-loop) → c .before .loop .i < length (start c .args .first .now)
+its-cell c = omega (arith, start c .pre .lasts)
 
 -- in the end all have been looked at
+abbrev entry : tie.After-loop Inv-loop μ-loop → tie.Start Inv-loop μ-loop
+entry c = search
+
 all-seen : (c : tie.After-loop Inv-loop μ-loop)
-    → let a = c .before .before .args in
+    → let a = entry c .args in
     Ended (a .last .now) (a .x) (length (a .first .now)) (c .before .loop .ended)
 all-seen c =
-    let start = c .before .before in
-    let e : c .before .loop .i ≡ length (start .args .first .now) = omega (arith, start .pre .lasts) in
+    let e : c .before .loop .i ≡ length (entry c .args .first .now) = omega (arith, entry c .pre .lasts) in
     rw (← e) (c .before .loop .inv .1)
 
 loop-holds : tie.Need-loop-holds Inv-loop μ-loop
@@ -40,11 +45,10 @@ shared-slice-read-if1 c = search needs
 
 add-ended : tie.Need-add-ended Inv-loop μ-loop
 add-ended c =
-    let in-loop = c .before .before in
+    let in-loop : tie.In-loop Inv-loop μ-loop = search in
     let known = in-loop .before .loop .inv .1 in
-    let start = in-loop .before .before in
-    let few : in-loop .before .loop .ended < start .args .x
-    = ended-few _ _ (start .pre) _ _ _ known (its-cell in-loop) (c .if1 .taken) in
+    let few : in-loop .before .loop .ended < start in-loop .args .x
+    = ended-few _ _ (start in-loop .pre) _ _ _ known (its-cell in-loop) (c .if1 .taken) in
     omega arith
 
 add-i : tie.Need-add-i Inv-loop μ-loop
@@ -55,10 +59,10 @@ loop-less c = search needs
 
 loop-again : tie.Need-loop-again Inv-loop μ-loop
 loop-again c =
-    let in-loop = c .before .before in
+    let in-loop : tie.In-loop Inv-loop μ-loop = search in
     let known = in-loop .before .loop .inv .1 in
     let h = its-cell in-loop in
-    let rise = in-loop .before .before .pre in (
+    let rise = start in-loop .pre in (
       omega arith,
       ⊎-elim
           (λ w. rw (w .1) (ended-more _ _ rise _ _ _ known h (w .0 .taken)))
@@ -77,18 +81,19 @@ shared-slice-read-if3 c = search needs
 
 returns : tie.Need-returns Inv-loop μ-loop
 returns c =
-    let seen = c .before .before .before in
-    found-here _ _ (seen .before .before .pre) _ _ (all-seen seen) (c .before .before .if2 .taken) (c .if3 .taken)
+    let seen : tie.After-loop Inv-loop μ-loop = search in
+    let within : tie.Then2 Inv-loop μ-loop = search in
+    found-here _ _ (entry seen .pre) _ _ (all-seen seen) (within .if2 .taken) (c .if3 .taken)
 
 returns-2 : tie.Need-returns-2 Inv-loop μ-loop
 returns-2 c =
-    let seen = c .before .before .before in
-    found-nowhere _ _ (seen .before .before .pre) _ _ (all-seen seen) (λ _. c .if3 .left)
+    let seen : tie.After-loop Inv-loop μ-loop = search in
+    found-nowhere _ _ (entry seen .pre) _ _ (all-seen seen) (λ _. c .if3 .left)
 
 returns-3 : tie.Need-returns-3 Inv-loop μ-loop
 returns-3 c =
-    let seen = c .before in
-    found-nowhere _ _ (seen .before .before .pre) _ _ (all-seen seen) (λ h. absurd (omega (arith, c .if2 .left)))
+    let seen : tie.After-loop Inv-loop μ-loop = search in
+    found-nowhere _ _ (entry seen .pre) _ _ (all-seen seen) (λ h. absurd (omega (arith, c .if2 .left)))
 
 pub find-spec : {M : Type 1} → statement M
 find-spec =

@@ -8,12 +8,15 @@ place-of-requires c κs = search needs
 
 word-in-requires : tie.Need-word-in-requires
 word-in-requires c κs =
-    let start = c .before .before .before .before .before in
-    omega (arith, c .place-of .ensures, start .pre .1 (c .before .if1 .taken))
+    let start : tie.Start = search in
+    let whole : tie.Then1 = search in
+    omega (arith, c .place-of .ensures, start .pre .1 (whole .if1 .taken))
 
 returns : tie.Need-returns
 returns c =
-    rw (c .before .before .if1 .taken, c .word-in .ensures, c .before .place-of .ensures)
+    let whole : tie.Then1 = search in
+    let at : tie.After-place-of = search in
+    rw (whole .if1 .taken, c .word-in .ensures, at .place-of .ensures)
 
 returns-2 : tie.Need-returns-2
 returns-2 c = rw (c .if1 .left)

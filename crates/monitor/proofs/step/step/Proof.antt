@@ -2,33 +2,28 @@
 use borrow.Author.Needs.{needs}
 use mathlib.Core.Path.{_∙_}
 use Rattle.rules.specs.Numbers.{State, state}
-use Rattle.rules.specs.Lent.{given}
+use Rattle.rules.specs.Lent.{lentOf}
 use Rattle.rules.specs.Instructions.{addressOf}
 use Rattle.monitor.proofs.Readiness.{cells-rise}
 use Rattle.monitor.proofs.Searching.{FoundAt}
 use Rattle.monitor.proofs.Stepping.{found-for, found-nothing, stepped-nowhere, stepped-refused, stepped-applied, needs-hold}
 use Rattle.monitor.proofs.step.step.Statement.{statement}
 use Rattle.monitor.proofs.step.step.Tie as tie
-
-abbrev start : tie.After-slice-known4 → tie.Start
-start c = c .before .before .before .before .before .before .before
+use Rattle.monitor.proofs.step.step.Lts as lts
 
 abbrev st : tie.Start → State
-st c =
-    state
-    (given (c .args .m) (c .args .first) (c .args .last) (c .args .offset) (c .args .marks) (c .args .rights) (c .args .grants) (c .args .memory))
-    (c .args .registers)
+st c = state (lentOf (lts.dens _ _ _ _ (c .args))) (c .args .registers)
 
 -- the entry, from where the cell is found, and from where it is judged
 abbrev from-found : tie.After-f → tie.Start
-from-found c = start (c .before .before .before .before)
+from-found c = search
 
 abbrev from-judged : tie.After-judge → tie.After-f
-from-judged c = c .before .before .before .before .before .before
+from-judged c = search
 
 found : (c : tie.After-f) → FoundAt (st (from-found c) .lent) (addressOf (from-found c .args .i)) (c .f .given .0 .0)
 found c =
-    let searched = c .before .before in
+    let searched : tie.After-find = search in
     found-for (st (from-found c) .lent) (from-found c .args .i) _ _ (searched .before .address-of .ensures) (searched .find .ensures)
     (c .f .given .1)
 
@@ -37,7 +32,7 @@ address-of-requires c κs = search needs
 
 find-requires : tie.Need-find-requires
 find-requires c κs =
-    let s = start (c .before) in
+    let s : tie.Start = search in
     cells-rise (st s .lent) (s .pre .0 .sizes) (s .pre .0 .sound)
 
 enum-told : tie.Need-enum-told
@@ -51,17 +46,18 @@ enum-known-f c = search needs
 
 judge-requires : tie.Need-judge-requires
 judge-requires c κs =
-    let here = c .before .before .before .before .before in
+    let here : tie.After-f = search in
     let s = from-found here in
     record { begun = s .pre .0; range = s .pre .1; cell = found here .cell }
 
 apply-requires : tie.Need-apply-requires
 apply-requires c κs =
-    let judged = c .before .before .before .before .before in
+    let accepted : tie.Then1 = search in
+    let judged : tie.After-judge = search in
     let here = from-judged judged in
     let s = from-found here in (
       record { begun = s .pre .0; range = s .pre .1; cell = found here .cell },
-      needs-hold (st s) (s .args .i) _ _ (found here) (judged .judge .ensures) (c .before .before .before .before .if1 .taken),
+      needs-hold (st s) (s .args .i) _ _ (found here) (judged .judge .ensures) (accepted .if1 .taken),
     )
 
 refuse-requires-2 : tie.Need-refuse-requires-2
@@ -69,10 +65,12 @@ refuse-requires-2 c κs = search needs
 
 returns : tie.Need-returns
 returns c =
-    let searched = c .before .before .before in
-    let s = start (searched .before .before) in
+    let s : tie.Start = search in
+    let address : tie.After-address-of = search in
+    let searched : tie.After-find = search in
+    let nowhere : tie.After-enum-told = search in
     rw (c .refuse .ensures) (stepped-nowhere (st s) (s .args .i)
-    (found-nothing (st s .lent) (s .args .i) _ (searched .before .address-of .ensures) (searched .find .ensures) (c .before .enum-told .given .1)))
+    (found-nothing (st s .lent) (s .args .i) _ (address .address-of .ensures) (searched .find .ensures) (nowhere .enum-told .given .1)))
 
 same-length : tie.Need-same-length
 same-length c = search needs
@@ -88,12 +86,13 @@ same-length-4 c = search needs
 
 returns-2 : tie.Need-returns-2
 returns-2 c =
-    let applied = c .before .before .before .before .before .before .before .before in
-    let judged = applied .before .before .before .before .before .before in
+    let applied : tie.After-apply = search in
+    let accepted : tie.Then1 = search in
+    let judged : tie.After-judge = search in
     let here = from-judged judged in
     let s = from-found here in
     applied .apply .ensures
-    ∙ stepped-applied (st s) (s .args .i) _ _ (found here) (judged .judge .ensures) (applied .before .before .before .before .before .if1 .taken)
+    ∙ stepped-applied (st s) (s .args .i) _ _ (found here) (judged .judge .ensures) (accepted .if1 .taken)
 
 same-length-5 : tie.Need-same-length-5
 same-length-5 c = search needs
@@ -109,10 +108,12 @@ same-length-8 c = search needs
 
 returns-3 : tie.Need-returns-3
 returns-3 c =
-    let here = from-judged (c .before .before) in
+    let refused : tie.Else1 = search in
+    let judged : tie.After-judge = search in
+    let here = from-judged judged in
     let s = from-found here in
     rw (c .refuse2 .ensures)
-    (stepped-refused (st s) (s .args .i) _ _ (found here) (c .before .before .judge .ensures) (c .before .if1 .left))
+    (stepped-refused (st s) (s .args .i) _ _ (found here) (judged .judge .ensures) (refused .if1 .left))
 
 pub step-spec : {M : Type 1} → statement M
 step-spec =
