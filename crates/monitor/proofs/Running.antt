@@ -49,28 +49,24 @@ pub turn-first : (s : State) (l numbers values : List ℕ) → Begun s → Turn 
 unfolding afterFirst answersIn
 turn-first s l numbers values b = record { at = refl; begun = b; shape = shape-same (s .lent); numbered = refl; valued = refl; long = refl; wide = refl }
 
--- an answer beside its position: the position, and the entry that it names
-module _ {p : ℕ} (k : ℕ) {o q : Outcome} (e : listed p o ≡ listed (k + 1) q) where
-  pub position-told : p ≡ k + 1
-  position-told = ap (λ (a : Listed). a .position) e
-
-  pub position-entry : p - 1 ≡ k
-  position-entry = omega (arith, position-told)
+-- an answer stands beside the position that was told
+pub position-told : {p j : ℕ} {o q : Outcome} → listed p o ≡ listed j q → p ≡ j
+position-told e = ap (λ (a : Listed). a .position) e
 
 -- the answer goes to the entry that its position names
-pub turn-next : {s : State} {l numbers values : List ℕ} {k p : ℕ} {u : State} {ns vs : List ℕ} (o : Outcome) → Turn s l numbers values k u ns vs
-    → listed p o ≡ listed (k + 1) (performed u (instructionAt l k))
+pub turn-next : {s : State} {l numbers values : List ℕ} {k j p : ℕ} {u : State} {ns vs : List ℕ} (o : Outcome) → Turn s l numbers values k u ns vs
+    → listed p o ≡ listed j (performed u (instructionAt l k)) → p - 1 ≡ k
     → Turn s l numbers values (k + 1) (o .after) (set ns (p - 1) (o .number)) (set vs (p - 1) (o .value))
 unfolding afterFirst answersIn
-turn-next {s} {l} {numbers} {values} {k} {p} {u} {ns} {vs} o t h =
+turn-next {s} {l} {numbers} {values} {k} {j} {p} {u} {ns} {vs} o t h at =
     let e : o ≡ performed u (instructionAt l k) = ap (λ (a : Listed). a .outcome) h in
     let q : o ≡ performed (afterFirst s l k) (instructionAt l k) = e ∙ ap (λ (w : State). performed w (instructionAt l k)) (t .at) in
     record {
       at = rw add-one (ap (λ (p : Outcome). p .after) q);
       begun = subst (λ (p : Outcome). Begun (p .after)) (sym e) (begun-kept u (instructionAt l k) (t .begun));
       shape = shape-then (t .shape) (subst (λ (p : Outcome). SameShape (u .lent) (p .after .lent)) (sym e) (shape-kept u (instructionAt l k)));
-      numbered = rw (position-entry k h, add-one, ← q, t .numbered);
-      valued = rw (position-entry k h, add-one, ← q, t .valued);
+      numbered = rw (at, add-one, ← q, t .numbered);
+      valued = rw (at, add-one, ← q, t .valued);
       long = simp length-set (t .long);
       wide = simp length-set (t .wide);
     }

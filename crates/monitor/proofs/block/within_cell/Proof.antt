@@ -17,7 +17,7 @@ unfolding withinCell
 returns c = refl
 
 returns-2 : tie.Need-returns-2
-returns-2 c = beyond-cell (c .before .args .last) _ _ (omega arith) (c .if1 .left)
+returns-2 c = beyond-cell (c .before .args .last) _ _ (omega arith) (omega (arith, c .if1 .left))
 
 pub within-cell-spec : {M : Type 1} → statement M
 within-cell-spec = tie.close (tie.spec add-end add-result returns returns-2)

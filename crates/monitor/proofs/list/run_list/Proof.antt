@@ -4,7 +4,7 @@ use mathlib.Core.Path.{_≡_}
 use native.Mathlib.Omega.{arith}
 use Rattle.rules.specs.Numbers.{tables, state}
 use Rattle.monitor.specs.Answers.{came}
-use Rattle.monitor.proofs.Running.{Turn, turn-first, position-told, position-entry, turn-next, turns-ran}
+use Rattle.monitor.proofs.Running.{Turn, turn-first, position-told, turn-next, turns-ran}
 use borrow.Author.Needs.{needs}
 use Rattle.monitor.proofs.list.run_list.Statement.{statement}
 use Rattle.monitor.proofs.list.run_list.Tie as tie
@@ -28,7 +28,7 @@ start c = search
 
 -- its answer's entry
 entry : (c : tie.After-perform Inv-loop μ-loop) → c .perform .result .position - 1 ≡ turn c .before .loop .k
-entry c = position-entry (turn c .before .loop .k) (c .perform .ensures)
+entry c = omega (arith, position-told (c .perform .ensures))
 
 loop-holds : tie.Need-loop-holds Inv-loop μ-loop
 loop-holds c =
@@ -82,7 +82,7 @@ perform-requires c κs =
 sub-entry : tie.Need-sub-entry Inv-loop μ-loop
 sub-entry c =
     let p : tie.After-perform Inv-loop μ-loop = search in
-    omega (arith, position-told (turn p .before .loop .k) (p .perform .ensures))
+    omega (arith, position-told (p .perform .ensures))
 
 mul-numbers : tie.Need-mul-numbers Inv-loop μ-loop
 mul-numbers c =
@@ -117,7 +117,7 @@ loop-less c =
 loop-again : tie.Need-loop-again Inv-loop μ-loop
 loop-again c =
     let p : tie.After-perform Inv-loop μ-loop = search in
-    (omega (arith, turn p .loop-test .taken), turn-next (came (p .perform .result .reply) _) (turn p .before .loop .inv .1) (p .perform .ensures))
+    (omega (arith, turn p .loop-test .taken), turn-next (came (p .perform .result .reply) _) (turn p .before .loop .inv .1) (p .perform .ensures) (entry p))
 
 same-length : tie.Need-same-length Inv-loop μ-loop
 same-length c = c .before .loop .inv .1 .shape .marks
