@@ -14,7 +14,7 @@ use Rattle.rules.specs.Numbers.{Tables, N, held}
 use Rattle.rules.specs.Sound.{holders, afterCellBefore, soundCell, soundTables, lowestUnsound}
 use Rattle.rules.specs.Refusals.{outOfBounds, unsound, wellSized, firstFailing}
 use Rattle.rules.proofs.Below.{by-test, every-at, every-all, every-same, count-same}
-use Rattle.rules.proofs.Below.{Searched, searched-here, searched-all}
+use Rattle.rules.proofs.Below.{Searched, searched-here, searched-later, searched-all}
 use Rattle.rules.proofs.Below.{lowest-le, lowest-passes, lowest-before, lowest-none}
 use Rattle.rules.proofs.Sizes.{Sized, row-below, entry-below, entries-few}
 use Rattle.rules.proofs.SoundCells.{lowest-sound, sound-lowest}
@@ -125,6 +125,15 @@ module _ (t : Tables) where
 
   pub unsound-before-end : (lowestUnsound t ≡ N t → ⊥) → soundTables t ≡ false
   unsound-before-end n = by-test (soundTables t) (λ e. absurd (n (sound-lowest t e))) (λ e. e)
+
+-- where the search has come to a cell, whether that cell is sound takes it on or ends it
+module _ (t : Tables) (c : ℕ) (s : Searched (λ k. not (soundCell t k)) (N t) c) (h : c < N t) where
+  pub sound-later : {r : Bool} → r ≡ soundCell t c → r ≡ true → Searched (λ k. not (soundCell t k)) (N t) (c + 1)
+  sound-later e q = searched-later _ _ _ s h (ap not (sym e ∙ q))
+
+  pub unsound-here : {r : Bool} → r ≡ soundCell t c → r ≡ false → c ≡ lowestUnsound t
+  unfolding lowestUnsound
+  unsound-here e q = searched-here _ _ _ s h (ap not (sym e ∙ q))
 
 -- ---- what the check answers
 

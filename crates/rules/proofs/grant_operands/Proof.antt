@@ -9,7 +9,8 @@ use Rattle.rules.proofs.grant_operands.Tie as tie
 returns : tie.Need-returns
 unfolding grantOperands
 returns c =
-    let h : c .before .before .args .z ≤ 7 = omega arith in
+    let s : tie.Start = search in
+    let h : s .args .z ≤ 7 = omega arith in
     simp (le-leb _ _ (c .before .if1 .left), le-leb _ _ h, and-true)
 
 returns-2 : tie.Need-returns-2

@@ -6,43 +6,39 @@ use Rattle.rules.proofs.Rights.{larger-le}
 use Rattle.rules.proofs.join_of.Statement.{statement}
 use Rattle.rules.proofs.join_of.Tie as tie
 
--- src/lib.rt:75:5
 larger-of-requires : tie.Need-larger-of-requires
 larger-of-requires c κs = search needs
 
--- src/lib.rt:75:35
 larger-of-requires-2 : tie.Need-larger-of-requires-2
 larger-of-requires-2 c κs = search needs
 
--- src/lib.rt:75:31
 mul-result : tie.Need-mul-result
 mul-result c =
-    let a = c .before .before .args in
+    let s : tie.Start = search in
+    let a = s .args in
     omega (arith, larger-le (a .a / 2 % 2) (a .b / 2 % 2) 1 (omega arith) (omega arith))
 
--- src/lib.rt:75:5
 add-result : tie.Need-add-result
 add-result c =
-    let a = c .before .before .args in
+    let s : tie.Start = search in
+    let a = s .args in
     omega (arith, larger-le (a .a % 2) (a .b % 2) 1 (omega arith) (omega arith), larger-le (a .a / 2 % 2) (a .b / 2 % 2) 1 (omega arith) (omega arith))
 
--- src/lib.rt:75:73
 larger-of-requires-3 : tie.Need-larger-of-requires-3
 larger-of-requires-3 c κs = search needs
 
--- src/lib.rt:75:69
 mul-result-2 : tie.Need-mul-result-2
 mul-result-2 c =
-    let a = c .before .before .before .args in
+    let s : tie.Start = search in
+    let a = s .args in
     omega (arith, larger-le (a .a / 4 % 2) (a .b / 4 % 2) 1 (omega arith) (omega arith))
 
--- src/lib.rt:75:5
 add-result-2 : tie.Need-add-result-2
 add-result-2 c =
-    let a = c .before .before .before .args in
+    let s : tie.Start = search in
+    let a = s .args in
     omega (arith, larger-le (a .a % 2) (a .b % 2) 1 (omega arith) (omega arith), larger-le (a .a / 2 % 2) (a .b / 2 % 2) 1 (omega arith) (omega arith), larger-le (a .a / 4 % 2) (a .b / 4 % 2) 1 (omega arith) (omega arith))
 
--- src/lib.rt:72:1
 returns : tie.Need-returns
 unfolding join
 returns c = search needs

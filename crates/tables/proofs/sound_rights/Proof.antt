@@ -35,16 +35,17 @@ loop-less c = search needs
 
 loop-again : tie.Need-loop-again Inv-loop μ-loop
 loop-again c =
-    let at-loop = c .before .before in
-    let p = small (at-loop .before .args .row .now) in
+    let s : tie.Start Inv-loop μ-loop = search in
+    let at-loop : tie.At-loop Inv-loop μ-loop = search in
+    let p = small (s .args .row .now) in
     (search needs, rw (every-more p (at-loop .loop .i), at-loop .loop .inv .1))
 
 returns : tie.Need-returns Inv-loop μ-loop
 returns c =
-    let at-loop = c .before in
-    let row = at-loop .before .args .row .now in
-    let e : at-loop .loop .i ≡ length row = omega arith in
-    at-loop .loop .inv .1 ∙ ap (every (small row)) e
+    let s : tie.Start Inv-loop μ-loop = search in
+    let row = s .args .row .now in
+    let e : c .before .loop .i ≡ length row = omega arith in
+    c .before .loop .inv .1 ∙ ap (every (small row)) e
 
 pub sound-rights-spec : {M : Type 1} → statement M
 sound-rights-spec =

@@ -90,7 +90,7 @@ part-perform-start-3 : tie.Need-part-perform-start-3
 part-perform-start-3 c = search needs
 
 part-perform-end-3 : tie.Need-part-perform-end-3
-part-perform-end-3 c = omega (arith, c .before .before)
+part-perform-end-3 c = let counted : tie.After-lent3 = search in omega (arith, counted)
 
 slice-relend-prefix-perform : tie.Need-slice-relend-prefix-perform
 slice-relend-prefix-perform c = search needs

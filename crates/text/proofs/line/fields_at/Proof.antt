@@ -28,16 +28,18 @@ bad-row-requires c κs = search needs
 
 returns : tie.Need-returns Inv-loop μ-loop
 returns c =
-    let turn = c .before .before .before in
+    let turn : tie.In-loop Inv-loop μ-loop = search in
+    let other : tie.Then1 Inv-loop μ-loop = search in
     c .bad-row .ensures
     ∙ fields-no-tab (turn .before .loop .inv) (turn .loop-test .taken)
-    (λ e. c .before .if1 .taken (c .before .before .peek .ensures ∙ e))
+    (λ e. other .if1 .taken (other .before .peek .ensures ∙ e))
 
 add-number-at : tie.Need-add-number-at Inv-loop μ-loop
 add-number-at c =
-    let turn = c .before .before in
+    let start : tie.Start Inv-loop μ-loop = search in
+    let turn : tie.In-loop Inv-loop μ-loop = search in
+    let s = start .args .s .now in
     let i = turn .before .loop .i in
-    let s = turn .before .before .before .args .s .now in
     let inside : i < length s = peek-inside s i (omega (arith, sym (c .before .peek .ensures) ∙ c .if1 .left)) in
     omega arith
 
@@ -55,12 +57,14 @@ bad-row-requires-2 c κs = search needs
 
 returns-2 : tie.Need-returns-2 Inv-loop μ-loop
 returns-2 c =
-    let field = c .before .before .before in
-    let turn = field .before .before .before in
+    let turn : tie.In-loop Inv-loop μ-loop = search in
+    let tab : tie.Else1 Inv-loop μ-loop = search in
+    let field : tie.After-number-at Inv-loop μ-loop = search in
+    let none : tie.After-enum-told Inv-loop μ-loop = search in
     c .bad-row2 .ensures
     ∙ fields-no-number (turn .before .loop .inv) (turn .loop-test .taken)
-    (sym (field .before .before .peek .ensures) ∙ field .before .if1 .left)
-    (sym (field .number-at .ensures) ∙ c .before .enum-told .given .1)
+    (sym (tab .before .peek .ensures) ∙ tab .if1 .left)
+    (sym (field .number-at .ensures) ∙ none .enum-told .given .1)
 
 mul-v : tie.Need-mul-v Inv-loop μ-loop
 mul-v c = search needs
@@ -76,20 +80,23 @@ loop-less c = search needs
 
 loop-again : tie.Need-loop-again Inv-loop μ-loop
 loop-again c =
-    let field = c .before .before .before in
-    let turn = field .before .before .before in
+    let turn : tie.In-loop Inv-loop μ-loop = search in
+    let tab : tie.Else1 Inv-loop μ-loop = search in
+    let field : tie.After-number-at Inv-loop μ-loop = search in
+    let number : tie.After-x Inv-loop μ-loop = search in
     fields-go-on (turn .before .loop .inv) (turn .loop-test .taken)
-    (sym (field .before .before .peek .ensures) ∙ field .before .if1 .left)
-    (sym (field .number-at .ensures) ∙ c .before .x .given .1)
+    (sym (tab .before .peek .ensures) ∙ tab .if1 .left)
+    (sym (field .number-at .ensures) ∙ number .x .given .1)
 
 peek-requires-2 : tie.Need-peek-requires-2 Inv-loop μ-loop
 peek-requires-2 c κs = search needs
 
 add-t18 : tie.Need-add-t18 Inv-loop μ-loop
 add-t18 c =
-    let done = c .before .before in
+    let start : tie.Start Inv-loop μ-loop = search in
+    let done : tie.After-loop Inv-loop μ-loop = search in
+    let s = start .args .s .now in
     let i = done .before .loop .i in
-    let s = done .before .before .before .args .s .now in
     let inside : i < length s = peek-inside s i (omega (arith, sym (c .before .peek2 .ensures) ∙ c .if2 .taken)) in
     omega arith
 
@@ -98,15 +105,16 @@ bad-row-requires-3 c κs = search needs
 
 returns-3 : tie.Need-returns-3 Inv-loop μ-loop
 returns-3 c =
-    let done = c .before .before in
+    let done : tie.After-loop Inv-loop μ-loop = search in
     fields-end (done .before .loop .inv) (done .loop-test .left) (sym (c .before .peek2 .ensures) ∙ c .if2 .taken)
 
 returns-4 : tie.Need-returns-4 Inv-loop μ-loop
 returns-4 c =
-    let done = c .before .before .before in
+    let done : tie.After-loop Inv-loop μ-loop = search in
+    let other : tie.Else2 Inv-loop μ-loop = search in
     c .bad-row3 .ensures
     ∙ fields-no-end (done .before .loop .inv) (done .loop-test .left)
-    (λ e. c .before .if2 .left (c .before .before .peek2 .ensures ∙ e))
+    (λ e. other .if2 .left (other .before .peek2 .ensures ∙ e))
 
 pub fields-at-spec : {M : Type 1} → statement M
 fields-at-spec =

@@ -26,15 +26,17 @@ bad-row-requires-2 c κs = search needs
 
 returns-2 : tie.Need-returns-2
 returns-2 c =
+    let few : tie.Else1 = search in
+    let found : tie.Then2 = search in
     c .fields-at .ensures
-    ∙ row-fields _ _ _ _ (c .before .before .before .if1 .left)
-    (sym (c .before .before .word-at .ensures .0) ∙ c .before .if2 .taken)
+    ∙ row-fields _ _ _ _ (few .if1 .left) (sym (found .before .word-at .ensures .0) ∙ found .if2 .taken)
 
 returns-3 : tie.Need-returns-3
 returns-3 c =
+    let few : tie.Else1 = search in
+    let missing : tie.Else2 = search in
     c .bad-row2 .ensures
-    ∙ row-no-word _ _ _ _ (c .before .before .before .if1 .left)
-    (sym (c .before .before .word-at .ensures .0) ∙ c .before .if2 .left)
+    ∙ row-no-word _ _ _ _ (few .if1 .left) (sym (missing .before .word-at .ensures .0) ∙ missing .if2 .left)
 
 pub row-at-spec : {M : Type 1} → statement M
 row-at-spec =

@@ -21,19 +21,25 @@ bad-row-requires-2 : tie.Need-bad-row-requires-2
 bad-row-requires-2 c κs = search needs
 
 returns-2 : tie.Need-returns-2
-returns-2 c = c .bad-row2 .ensures ∙ within-low _ _ _ _ (c .before .before .before .if1 .left) (c .before .if2 .taken)
+returns-2 c =
+    let entry : tie.Else1 = search in
+    let low : tie.Then2 = search in
+    c .bad-row2 .ensures ∙ within-low _ _ _ _ (entry .if1 .left) (low .if2 .taken)
 
 bad-row-requires-3 : tie.Need-bad-row-requires-3
 bad-row-requires-3 c κs = search needs
 
 returns-3 : tie.Need-returns-3
-returns-3 c = within-limits _ _ _ _ (c .before .before .before .if1 .left) (c .before .if2 .left) (c .if3 .taken)
+returns-3 c =
+    let entry : tie.Else1 = search in
+    within-limits _ _ _ _ (entry .if1 .left) (c .before .if2 .left) (c .if3 .taken)
 
 returns-4 : tie.Need-returns-4
 returns-4 c =
-    let low = c .before .before in
+    let entry : tie.Else1 = search in
+    let high : tie.Else3 = search in
     c .bad-row3 .ensures
-    ∙ within-high _ _ _ _ (low .before .before .if1 .left) (low .if2 .left) (c .before .if3 .left)
+    ∙ within-high _ _ _ _ (entry .if1 .left) (high .before .if2 .left) (high .if3 .left)
 
 pub within-spec : {M : Type 1} → statement M
 within-spec =

@@ -10,16 +10,14 @@ run-at-requires c κs = search needs
 
 returns : tie.Need-returns
 returns c =
-    let run = c .before in
-    let a = run .before .before .args in
-    number-empty (a .s .now) (a .at) (run .run-at .ensures .0) (run .run-at .ensures .1) (c .if1 .taken)
+    let run : tie.After-run-at = search in
+    number-empty _ _ (run .run-at .ensures .0) (run .run-at .ensures .1) (c .if1 .taken)
 
 returns-2 : tie.Need-returns-2
 returns-2 c =
-    let run = c .before .before in
-    let a = run .before .before .args in
-    number-large (a .s .now) (a .at) (run .run-at .ensures .0) (run .run-at .ensures .1) (c .before .if1 .left)
-    (c .if2 .taken)
+    let run : tie.After-run-at = search in
+    let some : tie.Else1 = search in
+    number-large _ _ (run .run-at .ensures .0) (run .run-at .ensures .1) (some .if1 .left) (c .if2 .taken)
 
 peek-requires : tie.Need-peek-requires
 peek-requires c κs = search needs
@@ -35,31 +33,30 @@ cast-t13 c = search needs
 
 returns-3 : tie.Need-returns-3
 returns-3 c =
-    let some = c .before .before .before .before in
-    let run = some .before in
-    let a = run .before .before .args in
-    number-zero (a .s .now) (a .at) (run .run-at .ensures .0) (run .run-at .ensures .1) (some .if1 .left)
-    (c .before .before .before .if2 .left)
-    (sym (c .before .before .peek .ensures) ∙ c .before .if3 .taken)
+    let run : tie.After-run-at = search in
+    let some : tie.Else1 = search in
+    let fits : tie.Else2 = search in
+    let zero : tie.Then3 = search in
+    number-zero _ _ (run .run-at .ensures .0) (run .run-at .ensures .1) (some .if1 .left) (fits .if2 .left)
+    (sym (zero .before .peek .ensures) ∙ zero .if3 .taken)
     (c .if4 .taken)
 
 returns-4 : tie.Need-returns-4
 returns-4 c =
-    let some = c .before .before .before .before in
-    let run = some .before in
-    let a = run .before .before .args in
-    number-padded (a .s .now) (a .at) (run .run-at .ensures .0) (run .run-at .ensures .1) (some .if1 .left)
-    (c .before .before .before .if2 .left)
-    (sym (c .before .before .peek .ensures) ∙ c .before .if3 .taken)
+    let run : tie.After-run-at = search in
+    let some : tie.Else1 = search in
+    let fits : tie.Else2 = search in
+    let zero : tie.Then3 = search in
+    number-padded _ _ (run .run-at .ensures .0) (run .run-at .ensures .1) (some .if1 .left) (fits .if2 .left)
+    (sym (zero .before .peek .ensures) ∙ zero .if3 .taken)
     (c .if4 .left)
 
 returns-5 : tie.Need-returns-5
 returns-5 c =
-    let some = c .before .before .before in
-    let run = some .before in
-    let a = run .before .before .args in
-    number-plain (a .s .now) (a .at) (run .run-at .ensures .0) (run .run-at .ensures .1) (some .if1 .left)
-    (c .before .before .if2 .left)
+    let run : tie.After-run-at = search in
+    let some : tie.Else1 = search in
+    let fits : tie.Else2 = search in
+    number-plain _ _ (run .run-at .ensures .0) (run .run-at .ensures .1) (some .if1 .left) (fits .if2 .left)
     (λ e. c .if3 .left (c .before .peek .ensures ∙ e))
 
 pub number-at-spec : {M : Type 1} → statement M

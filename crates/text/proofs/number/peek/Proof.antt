@@ -13,12 +13,14 @@ wide-requires c κs = search needs
 
 returns : tie.Need-returns
 returns c =
-    let inside = c .before .before in
-    let a = inside .before .before .args in
-    c .wide .ensures ∙ peek-byte (a .s .now) (a .at) (inside .if1 .taken)
+    let s : tie.Start = search in
+    let inside : tie.Then1 = search in
+    c .wide .ensures ∙ peek-byte (s .args .s .now) (s .args .at) (inside .if1 .taken)
 
 returns-2 : tie.Need-returns-2
-returns-2 c = let a = c .before .before .args in peek-past (a .s .now) (a .at) (c .if1 .left)
+returns-2 c =
+    let s : tie.Start = search in
+    peek-past (s .args .s .now) (s .args .at) (c .if1 .left)
 
 pub peek-spec : {M : Type 1} → statement M
 peek-spec = tie.close (tie.spec shared-slice-read-wide wide-requires returns returns-2)

@@ -1,6 +1,6 @@
 -- The loop's invariant: it has come to the place `i` with the value `v` (`Running`, of `Digits`). Each turn passes a
 -- byte of the text, so what is left of the text is the measure.
-use Prim.Native.Nat.{_-_}
+use Prim.Native.Nat.{_-_, _<_}
 use native.Mathlib.Omega.{arith}
 use lib.ListN.{length}
 use borrow.Author.Needs.{needs}
@@ -14,6 +14,18 @@ Inv-loop s at i₀ v₀ i v = Running s at i v
 abbrev μ-loop : tie.MeasureT-loop
 μ-loop s at i₀ v₀ i v = length s - i
 
+abbrev start : tie.Else2 Inv-loop μ-loop → tie.Start Inv-loop μ-loop
+start c = search
+
+abbrev at-loop : tie.Else2 Inv-loop μ-loop → tie.At-loop Inv-loop μ-loop
+at-loop c = search
+
+-- a place with a digit lies in the text
+digit-inside : (c : tie.Else2 Inv-loop μ-loop) → at-loop c .loop .i < length (start c .args .s .now)
+digit-inside c =
+    let read : tie.After-peek Inv-loop μ-loop = search in
+    run-inside (at-loop c .loop .inv) (read .peek .ensures) (c .if2 .left)
+
 loop-holds : tie.Need-loop-holds Inv-loop μ-loop
 loop-holds c = run-starts _ _
 
@@ -21,31 +33,31 @@ peek-requires : tie.Need-peek-requires Inv-loop μ-loop
 peek-requires c κs = search needs
 
 returns : tie.Need-returns Inv-loop μ-loop
-returns c = run-ends-below (c .before .before .loop .inv) (c .before .peek .ensures) (c .if1 .taken)
+returns c =
+    let turn : tie.At-loop Inv-loop μ-loop = search in
+    run-ends-below (turn .loop .inv) (c .before .peek .ensures) (c .if1 .taken)
 
 returns-2 : tie.Need-returns-2 Inv-loop μ-loop
 returns-2 c =
-    run-ends-above (c .before .before .before .loop .inv) (c .before .before .peek .ensures) (c .if2 .taken)
+    let turn : tie.At-loop Inv-loop μ-loop = search in
+    let read : tie.After-peek Inv-loop μ-loop = search in
+    run-ends-above (turn .loop .inv) (read .peek .ensures) (c .if2 .taken)
 
 shift-requires : tie.Need-shift-requires Inv-loop μ-loop
 shift-requires c κs = search needs
 
 add-i : tie.Need-add-i Inv-loop μ-loop
-add-i c =
-    let turn = c .before .before .before in
-    let inside = run-inside (turn .before .loop .inv) (turn .peek .ensures) (c .before .if2 .left) in
-    omega arith
+add-i c = let inside = digit-inside (search) in omega arith
 
 loop-less : tie.Need-loop-less Inv-loop μ-loop
-loop-less c =
-    let turn = c .before .before .before in
-    let inside = run-inside (turn .before .loop .inv) (turn .peek .ensures) (c .before .if2 .left) in
-    omega arith
+loop-less c = let inside = digit-inside (search) in omega arith
 
 loop-again : tie.Need-loop-again Inv-loop μ-loop
 loop-again c =
-    let turn = c .before .before .before in
-    run-turns (turn .before .loop .inv) (turn .peek .ensures) (c .before .before .if1 .left) (c .before .if2 .left)
+    let turn : tie.At-loop Inv-loop μ-loop = search in
+    let read : tie.After-peek Inv-loop μ-loop = search in
+    let digit : tie.Else2 Inv-loop μ-loop = search in
+    run-turns (turn .loop .inv) (read .peek .ensures) (digit .before .if1 .left) (digit .if2 .left)
     (c .shift .ensures)
 
 pub run-at-spec : {M : Type 1} → statement M

@@ -10,16 +10,17 @@ has-room-requires c κs = search needs
 
 write-number-requires : tie.Need-write-number-requires
 write-number-requires c κs =
-    let a = c .before .before .before .before .args in
-    room-for (a .at) 10 (length (a .out .now)) (c .before .before .has-room .ensures) (c .before .if1 .taken)
+    let s : tie.Start = search in
+    let room : tie.Then1 = search in
+    room-for (s .args .at) 10 (length (s .args .out .now)) (room .before .has-room .ensures) (room .if1 .taken)
 
 same-length : tie.Need-same-length
 same-length c = search needs
 
 returns : tie.Need-returns
 returns c =
-    let call = c .before .before in
-    let room = call .before .before in
+    let room : tie.Then1 = search in
+    let call : tie.After-write-number = search in
     number-put _ (room .before .has-room .ensures) (room .if1 .taken) (call .write-number .ensures)
 
 returns-2 : tie.Need-returns-2

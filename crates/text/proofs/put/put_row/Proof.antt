@@ -1,4 +1,5 @@
 -- The two cases of `Room`: with room, where the fields stand after the word, and without.
+use Prim.Native.Nat.{_+_, _*_, _≤_}
 use native.Mathlib.Omega.{arith}
 use lib.ListN.{length}
 use borrow.Author.Needs.{needs}
@@ -7,33 +8,38 @@ use Rattle.text.proofs.Room.{row-room-for, row-put, row-not-put}
 use Rattle.text.proofs.put.put_row.Statement.{statement}
 use Rattle.text.proofs.put.put_row.Tie as tie
 
+abbrev start : tie.Then1 → tie.Start
+start c = search
+
+-- the test says that there is room for the word and the fields
+room : (c : tie.Then1)
+    → let a = start c .args in
+    (a .k ≤ 5) × (a .at + (length (a .word .now) + 11 * a .k + 1) ≤ length (a .out .now))
+room c =
+    let a = start c .args in
+    row-room-for (a .at) (length (a .word .now)) (a .k) (length (a .out .now)) (c .before .row-has-room .ensures)
+    (c .if1 .taken)
+
 row-has-room-requires : tie.Need-row-has-room-requires
 row-has-room-requires c κs = search needs
 
 write-word-requires : tie.Need-write-word-requires
-write-word-requires c κs =
-    let a = c .before .before .before .before .before .args in
-    let room = row-room-for (a .at) (length (a .word .now)) (a .k) (length (a .out .now))
-    (c .before .before .row-has-room .ensures) (c .before .if1 .taken) in
-    omega arith
+write-word-requires c κs = let r = room (search) in omega arith
 
 write-fields-requires : tie.Need-write-fields-requires
 write-fields-requires c κs =
-    let word = c .before .before .before in
-    let test = word .before .before in
-    let a = test .before .before .before .before .args in
-    let room = row-room-for (a .at) (length (a .word .now)) (a .k) (length (a .out .now))
-    (test .before .row-has-room .ensures) (test .if1 .taken) in
-    (room .0, omega (arith, word .write-word .ensures .place, word .write-word .kept .0))
+    let word : tie.After-write-word = search in
+    let r = room (search) in
+    (r .0, omega (arith, word .write-word .ensures .place, word .write-word .kept .0))
 
 same-length : tie.Need-same-length
 same-length c = search needs
 
 returns : tie.Need-returns
 returns c =
-    let fields = c .before .before in
-    let word = fields .before .before .before .before in
-    let test = word .before .before in
+    let test : tie.Then1 = search in
+    let word : tie.After-write-word = search in
+    let fields : tie.After-write-fields = search in
     row-put _ _ _ (test .before .row-has-room .ensures) (test .if1 .taken)
     (put-then (word .write-word .ensures) (fields .write-fields .ensures))
 

@@ -10,17 +10,18 @@ has-room-requires c κs = search needs
 
 write-word-requires : tie.Need-write-word-requires
 write-word-requires c κs =
-    let a = c .before .before .before .before .before .args in
-    room-for (a .at) (length (a .word .now)) (length (a .out .now)) (c .before .before .has-room .ensures)
-    (c .before .if1 .taken)
+    let s : tie.Start = search in
+    let room : tie.Then1 = search in
+    room-for (s .args .at) (length (s .args .word .now)) (length (s .args .out .now)) (room .before .has-room .ensures)
+    (room .if1 .taken)
 
 same-length : tie.Need-same-length
 same-length c = search needs
 
 returns : tie.Need-returns
 returns c =
-    let call = c .before .before in
-    let room = call .before .before in
+    let room : tie.Then1 = search in
+    let call : tie.After-write-word = search in
     word-put (room .before .has-room .ensures) (room .if1 .taken) (call .write-word .ensures)
 
 returns-2 : tie.Need-returns-2

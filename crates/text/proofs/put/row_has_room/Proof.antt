@@ -13,8 +13,8 @@ has-room-requires c κs = search needs
 
 add-has-room : tie.Need-add-has-room
 add-has-room c =
-    let a = c .before .before .before .args in
-    let room = room-for (a .at) (a .word) (a .len) (c .before .has-room .ensures) (c .if2 .taken) in
+    let s : tie.Start = search in
+    let room = room-for (s .args .at) (s .args .word) (s .args .len) (c .before .has-room .ensures) (c .if2 .taken) in
     omega arith
 
 mul-has-room : tie.Need-mul-has-room
@@ -27,10 +27,14 @@ has-room-requires-2 : tie.Need-has-room-requires-2
 has-room-requires-2 c κs = search needs
 
 returns-2 : tie.Need-returns-2
-returns-2 c = row-room-fields _ _ _ _ (c .before .before .before .if1 .left) (c .has-room2 .ensures)
+returns-2 c =
+    let few : tie.Else1 = search in
+    row-room-fields _ _ _ _ (few .if1 .left) (c .has-room2 .ensures)
 
 returns-3 : tie.Need-returns-3
-returns-3 c = row-room-no-word _ _ _ _ (c .before .before .if1 .left) (c .before .has-room .ensures) (c .if2 .left)
+returns-3 c =
+    let few : tie.Else1 = search in
+    row-room-no-word _ _ _ _ (few .if1 .left) (c .before .has-room .ensures) (c .if2 .left)
 
 pub row-has-room-spec : {M : Type 1} → statement M
 row-has-room-spec =

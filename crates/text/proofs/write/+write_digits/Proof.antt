@@ -30,9 +30,7 @@ module _ (t : ℕ) where
   )
 
   returns : lts.Need-returns claims at-measure reads.Post
-  returns c =
-      let a = c .before .before .args in
-      digits-none (a .out .now) (a .at) (a .n) (a .f) (c .if1 .taken)
+  returns c = digits-none _ _ _ _ (c .if1 .taken)
 
   cast-write-byte : lts.Need-cast-write-byte claims at-measure reads.Post
   cast-write-byte c = search needs
@@ -48,11 +46,9 @@ module _ (t : ℕ) where
 
   returns-2 : lts.Need-returns-2 claims at-measure reads.Post
   returns-2 c =
-      let call = c .before .before in
-      let small = call .before .before in
-      let a = small .before .before .before .args in
-      digits-one (a .out .now) (a .at) (a .n) (a .f) (small .before .if1 .left) (small .if2 .taken)
-      (call .write-byte .ensures)
+      let small : lts.Then2 claims at-measure reads.Post = search in
+      let call : lts.After-write-byte claims at-measure reads.Post = search in
+      digits-one _ _ _ _ (small .before .if1 .left) (small .if2 .taken) (call .write-byte .ensures)
 
   sub-write-digits : lts.Need-sub-write-digits claims at-measure reads.Post
   sub-write-digits c = search needs
@@ -68,23 +64,21 @@ module _ (t : ℕ) where
 
   write-byte-requires-2 : lts.Need-write-byte-requires-2 claims at-measure reads.Post
   write-byte-requires-2 c κs =
-      let front = c .before .before .before in
-      let start = front .before .before .before .before .before in
-      let a = start .args in
-      let short = digits-length (a .f - 1) (a .n / 10) in
-      omega (arith, front .write-digits .ensures .place, front .write-digits .kept .0, start .pre .1)
+      let s : lts.Start claims at-measure reads.Post = search in
+      let front : lts.After-write-digits claims at-measure reads.Post = search in
+      let short = digits-length (s .args .f - 1) (s .args .n / 10) in
+      omega (arith, front .write-digits .ensures .place, front .write-digits .kept .0, s .pre .1)
 
   same-length-2 : lts.Need-same-length-2 claims at-measure reads.Post
   same-length-2 c = search needs
 
   returns-3 : lts.Need-returns-3 claims at-measure reads.Post
   returns-3 c =
-      let call = c .before .before in
-      let front = call .before .before .before .before in
-      let large = front .before .before in
-      let a = large .before .before .before .args in
-      digits-more (a .out .now) (a .at) (a .n) (a .f) (large .before .if1 .left) (large .if2 .left)
-      (front .write-digits .ensures) (call .write-byte2 .ensures)
+      let large : lts.Else2 claims at-measure reads.Post = search in
+      let front : lts.After-write-digits claims at-measure reads.Post = search in
+      let call : lts.After-write-byte2 claims at-measure reads.Post = search in
+      digits-more _ _ _ _ (large .before .if1 .left) (large .if2 .left) (front .write-digits .ensures)
+      (call .write-byte2 .ensures)
 
 pub +write-digits-spec : {M : Type 1} → statement M
 +write-digits-spec =

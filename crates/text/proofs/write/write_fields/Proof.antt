@@ -14,7 +14,7 @@ abbrev μ-loop : tie.MeasureT-loop
 μ-loop out₀ at k v i₀ j₀ out i j = k - j
 
 loop-holds : tie.Need-loop-holds Inv-loop μ-loop
-loop-holds c = listed-none _ _ _ _ (c .before .pre .1)
+loop-holds c = let s : tie.Start Inv-loop μ-loop = search in listed-none _ _ _ _ (s .pre .1)
 
 write-byte-requires : tie.Need-write-byte-requires Inv-loop μ-loop
 write-byte-requires c κs = search needs
@@ -36,11 +36,11 @@ loop-less c = search needs
 
 loop-again : tie.Need-loop-again Inv-loop μ-loop
 loop-again c =
-    let number = c .before .before .write-number in
-    let after-tab = c .before .before .before .before .before .before in
-    let turn = after-tab .before .before in
-    listed-more (turn .before .loop .inv) (turn .loop-test .taken) (after-tab .write-byte .ensures) (number .ensures)
-    (number .kept .0 ∙ after-tab .write-byte .kept .0)
+    let turn : tie.In-loop Inv-loop μ-loop = search in
+    let tab : tie.After-write-byte Inv-loop μ-loop = search in
+    let number : tie.After-write-number Inv-loop μ-loop = search in
+    listed-more (turn .before .loop .inv) (turn .loop-test .taken) (tab .write-byte .ensures)
+    (number .write-number .ensures) (number .write-number .kept .0 ∙ tab .write-byte .kept .0)
 
 write-byte-requires-2 : tie.Need-write-byte-requires-2 Inv-loop μ-loop
 write-byte-requires-2 c κs = search needs
@@ -50,8 +50,9 @@ same-length c = search needs
 
 returns : tie.Need-returns Inv-loop μ-loop
 returns c =
-    let done = c .before .before .before .before in
-    listed-all (done .before .loop .inv) (done .loop-test .left) (c .before .before .write-byte2 .ensures)
+    let done : tie.After-loop Inv-loop μ-loop = search in
+    let end : tie.After-write-byte2 Inv-loop μ-loop = search in
+    listed-all (done .before .loop .inv) (done .loop-test .left) (end .write-byte2 .ensures)
 
 pub write-fields-spec : {M : Type 1} → statement M
 write-fields-spec =

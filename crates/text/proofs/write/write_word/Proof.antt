@@ -32,7 +32,9 @@ loop-less : tie.Need-loop-less Inv-loop μ-loop
 loop-less c = search needs
 
 loop-again : tie.Need-loop-again Inv-loop μ-loop
-loop-again c = spelt-more (c .before .before .loop .inv) (c .before .loop-test .taken)
+loop-again c =
+    let turn : tie.In-loop Inv-loop μ-loop = search in
+    spelt-more (turn .before .loop .inv) (turn .loop-test .taken)
 
 same-length : tie.Need-same-length Inv-loop μ-loop
 same-length c = search needs
