@@ -9,7 +9,6 @@ use Rattle.monitor.specs.Runs.{instructionAt, afterFirst}
 use Rattle.history.specs.History.{Right, Held}
 use Rattle.history.specs.Shown.{holdsIn, stateAt, shown}
 use Rattle.history.proofs.Demand3.{right-history}
-use Rattle.listing.specs.Listing.{run, listingIn}
 
 -- the state after the first k instructions of a list is the state at time k of the run whose steps they are
 pub list-run : (s : State) (l : List ℕ) (k : ℕ) → afterFirst s l k ≡ stateAt (instructionAt l) s k
@@ -22,9 +21,3 @@ pub list-history : (s : State) (l : List ℕ) (k c d : ℕ) (r : Right) → hold
     → Held (shown (instructionAt l) s) c r k d
 list-history s l k c d r h =
     right-history (instructionAt l) s k c d r (subst (λ (u : State). holdsIn (u .lent) c d r ≡ true) (list-run s l k) h)
-
--- every right held in the state that `cellrun` writes of a listing was held since the listing's start, or last gained by an
--- accepted receive of a grant whose maker held it when making it, and so back to that start, over the listing's instructions
-pub listing-history : (text : List ℕ) (start : State) (k : ℕ) (l : List ℕ) → listingIn text ≡ run start k l → (c d : ℕ) (r : Right)
-    → holdsIn (afterFirst start l k .lent) c d r ≡ true → Held (shown (instructionAt l) start) c r k d
-listing-history text start k l e = list-history start l k

@@ -1,5 +1,6 @@
--- Two outcomes that one contract allows are equal: for each exported function, over its contract as the source states it.
--- Assumes nothing.
+-- Two outcomes that one contract allows are equal: for each exported function, over its contract as the source states it. A list
+-- that is lent with `&` cannot be written through and comes back as it was passed, so the theorem about `cells_view`, which takes
+-- nothing else, speaks of the result alone. Assumes nothing.
 use mathlib.Core.Path.{_≡_, ap}
 use Rattle.rules.proofs.Laws.{one-outcome}
 use Rattle.monitor.proofs.Unique.{same-reply, lists, answers}
@@ -22,5 +23,5 @@ pub cells-write-block-unique : (κs : _) (a : _) (r q : _) (s u : _) → write-b
     → (r ≡ q) × (lists a s ≡ lists a u)
 cells-write-block-unique κs a r q s u e f = (same-reply (one-outcome e f), ap (λ o. o .after .lent) (one-outcome e f))
 
-pub cells-view-unique : (κs : _) (a : _) (r q : _) (s : _) → view-reads.Post κs a r s → view-reads.Post κs a q s → r ≡ q
-cells-view-unique κs a r q s = one-outcome
+pub cells-view-unique : (κs : _) (a : _) (r q : _) (s u : _) → view-reads.Post κs a r s → view-reads.Post κs a q u → r ≡ q
+cells-view-unique κs a r q s u = one-outcome

@@ -86,7 +86,7 @@ module _ (n m : ℕ) (some : 1 ≤ m) (few : m ≤ 32) (cells : n ≤ 256) (s re
 -- ---- no right line stands where the lines of grants do
 
 -- where none stands behind them
-grants-no-right : (n m : ℕ) (s rest grants : List ℕ) (j e at : ℕ) → drop at s ≡ linesOf (grantLine m grants) e j ++ rest
+pub grants-no-right : (n m : ℕ) (s rest grants : List ℕ) (j e at : ℕ) → drop at s ≡ linesOf (grantLine m grants) e j ++ rest
     → rightAt n m s (at + length (linesOf (grantLine m grants) e j)) .ok ≡ false → rightAt n m s at .ok ≡ false
 grants-no-right n m s rest grants zero e at d f = rw (lines-end (grantLine m grants) e at) at f
 grants-no-right n m s rest grants (suc j) e at d f =

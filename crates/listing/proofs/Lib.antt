@@ -15,4 +15,6 @@ pub mod Deciding
 pub mod Beginning
 pub mod Lowest
 pub mod Whole
+pub mod Sized
+pub mod RunBack
 pub mod Unique

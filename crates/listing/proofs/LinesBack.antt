@@ -37,14 +37,14 @@ small-five a b c d e f g h i j (suc (suc (suc (suc zero)))) = j
 small-five a b c d e f g h i j (suc (suc (suc (suc (suc k))))) = omega arith
 
 -- the line of a keyword and three or four numbers, as a row that ends at a place
-abbrev row3 : (next a b c : ℕ) → Row
+abbrev pub row3 : (next a b c : ℕ) → Row
 row3 next a b c = record { ok = true; next = next; v = a ∷ b ∷ c ∷ 0 ∷ 0 ∷ [] }
 
 abbrev row4 : (next a b c d : ℕ) → Row
 row4 next a b c d = record { ok = true; next = next; v = a ∷ b ∷ c ∷ d ∷ 0 ∷ [] }
 
 module _ (s rest : List ℕ) (at : ℕ) (w : List ℕ) (a b c : ℕ) (f : a ≤ 4294967295) (g : b ≤ 4294967295) (h : c ≤ 4294967295) where
-  line3-back : drop at s ≡ line3 w a b c ++ rest → rowAt s at w 3 ≡ row3 (at + length (line3 w a b c)) a b c
+  pub line3-back : drop at s ≡ line3 w a b c ++ rest → rowAt s at w 3 ≡ row3 (at + length (line3 w a b c)) a b c
   line3-back e =
       row-back w (a ∷ b ∷ c ∷ 0 ∷ 0 ∷ []) 3 (omega arith) refl
       (small-five a b c 0 0 f g h (omega arith) (omega arith)) s rest at e

@@ -1,5 +1,5 @@
--- Two outcomes that the contract of `cellrun` allows are equal: the place where the output ends, and the whole buffer.
--- Assumes nothing.
+-- Two outcomes that the contract of `cellrun` allows are equal: the place where the output ends, and the whole buffer. The text is
+-- lent with `&`: it cannot be written through and comes back as it was passed. Assumes nothing.
 use mathlib.Core.Path.{_≡_, sym, _∙_}
 use denote.Ref.{now}
 use Rattle.listing.proofs.run.cellrun.Reads as cellrun-reads

@@ -132,7 +132,7 @@ unfolding writtenIn
 nothing-written out s h = rw (lt-leb outputRoom (length out) h)
 
 module _ (out s : List ℕ) (room : outputRoom ≤ length out) where
-  written : line1 cellsWord 1 ++ bodyOf (listingIn s) ≡ writtenIn out s
+  pub written : line1 cellsWord 1 ++ bodyOf (listingIn s) ≡ writtenIn out s
   unfolding writtenIn outputOf
   written = rw (le-leb outputRoom (length out) room)
 

@@ -89,7 +89,7 @@ lines-last line i (suc k) =
     ap (λ (t : List ℕ). line i ++ t) (lines-last line (i + 1) k)
     ∙ rw q (sym (append-assoc (line i) (linesOf line (i + 1) k) (line (i + suc k))))
 
-lines-next : (line : ℕ → List ℕ) (e : ℕ) → linesOf line 0 (e + 1) ≡ linesOf line 0 e ++ line e
+pub lines-next : (line : ℕ → List ℕ) (e : ℕ) → linesOf line 0 (e + 1) ≡ linesOf line 0 e ++ line e
 lines-next line e = let z : 0 + e ≡ e = omega arith in rw add-one (rw z at (lines-last line 0 e))
 
 -- e of k lines are written from at on, each of at most `room` bytes, and i is the place after them

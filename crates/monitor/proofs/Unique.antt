@@ -33,12 +33,12 @@ answers s = (now (restOf s .1 .1 .0), now (restOf s .1 .1 .1 .0))
 pub same-reply : {r q : Reply} {t u : Tables} → came r t ≡ came q u → r ≡ q
 same-reply e = λ i. record { number = e i .number; value = e i .value; registers = e i .after .registers }
 
-pub view-answer-unique : (κs : _) (a : _) (r q : _) (s : _) → view-answer-reads.Post κs a r s → view-answer-reads.Post κs a q s → r ≡ q
-view-answer-unique κs a r q s = one-outcome
+pub view-answer-unique : (κs : _) (a : _) (r q : _) (s u : _) → view-answer-reads.Post κs a r s → view-answer-reads.Post κs a q u → r ≡ q
+view-answer-unique κs a r q s u = one-outcome
 
 -- the same reference: it points to the same place, and the same bytes stand there
-pub view-unique : (κs : _) (a : _) (r q : _) (s : _) → view-reads.Post κs a r s → view-reads.Post κs a q s → refers r ≡ refers q
-view-unique κs a r q s = one-outcome
+pub view-unique : (κs : _) (a : _) (r q : _) (s u : _) → view-reads.Post κs a r s → view-reads.Post κs a q u → refers r ≡ refers q
+view-unique κs a r q s u = one-outcome
 
 -- the reply and every lent list at exit
 pub execute-unique : (κs : _) (a : _) (r q : _) (s u : _) → execute-reads.Post κs a r s → execute-reads.Post κs a q u
@@ -56,5 +56,5 @@ execute-all-unique κs a r q s u e f =
     let o = one-outcome e f in
     (ap (λ p. p .after .registers) o, ap (λ p. p .after .lent) o, λ i. (o i .numbers, o i .values))
 
-pub view-place-unique : (κs : _) (a : _) (r q : _) (s : _) → view-place-reads.Post κs a r s → view-place-reads.Post κs a q s → r ≡ q
-view-place-unique κs a r q s = one-outcome
+pub view-place-unique : (κs : _) (a : _) (r q : _) (s u : _) → view-place-reads.Post κs a r s → view-place-reads.Post κs a q u → r ≡ q
+view-place-unique κs a r q s u = one-outcome

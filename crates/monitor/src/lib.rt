@@ -163,9 +163,11 @@ pub fn execute(
         &mut numbers,
         &mut values,
     );
+    let refusal = numbers[0];
+    let value = values[0];
     Reply {
-        number: numbers[0],
-        value: values[0],
+        number: refusal,
+        value: value,
         registers: end,
     }
 }

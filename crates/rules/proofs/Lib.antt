@@ -12,5 +12,6 @@ pub mod Grants
 pub mod SoundCells
 pub mod Kept
 pub mod Laws
+pub mod Small
 pub mod Performing
 pub mod Unique

@@ -1,4 +1,4 @@
--- The checks of every call stand in the refusal list's order, and none has number 0. Assumes nothing.
+-- The checks of every call stand in the refusal list's order, and their numbers are 1 to 13. Assumes nothing.
 use Prim.Native.Nat.{ℕ, _≤_}
 use mathlib.Core.Path.{_≡_, refl, sym, subst}
 use mathlib.Core.Logic.{inl, inr}
@@ -82,3 +82,9 @@ positive = (omega arith, (omega arith, (omega arith, (omega arith, (omega arith,
 
 pub checks-numbered : (s : State) (a : Action) → Numbered (checks s a)
 checks-numbered s a = in-list (λ n. 1 ≤ n) refusalList (checks s a) positive (checks-ordered s a)
+
+small : Each (λ n. n ≤ 13) refusalList
+small = (omega arith, (omega arith, (omega arith, (omega arith, (omega arith, (omega arith, (omega arith, (omega arith, (omega arith, (omega arith, (omega arith, (omega arith, (omega arith, tt)))))))))))))
+
+pub checks-small : (s : State) (a : Action) → Each (λ k. k .refusal ≤ 13) (checks s a)
+checks-small s a = in-list (λ n. n ≤ 13) refusalList (checks s a) small (checks-ordered s a)

@@ -258,9 +258,10 @@ pub fn check(
                 value: 0,
             }
         } else {
+            let value = c as u32;
             Answer {
                 number: rules::UNSOUND,
-                value: c as u32,
+                value: value,
             }
         }
     } else {

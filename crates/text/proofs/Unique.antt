@@ -1,5 +1,7 @@
 -- Two outcomes that one contract allows are equal: for each public function, over its contract as the source states it
--- (`Post` is what its `ensures` says of the arguments, the result and the parameters at exit). Assumes nothing.
+-- (`Post` is what its `ensures` says of the arguments, the result and the parameters at exit). A list that is lent with `&`, as
+-- the readers' text and the writers' word, cannot be written through and comes back as it was passed, so the result and the
+-- buffer are all there is. Assumes nothing.
 use Prim.Native.Nat.{ℕ}
 use mathlib.Core.Path.{_≡_, sym, _∙_}
 use mathlib.Core.List.{List}
@@ -15,15 +17,15 @@ use Rattle.text.proofs.put.put_row.Reads as put-row-reads
 
 -- ---- the readers: the answer is the definition
 
-pub peek-unique : (κs : _) (a : _) (r q : _) (s : _) → peek-reads.Post κs a r s → peek-reads.Post κs a q s → r ≡ q
-peek-unique κs a r q s e f = e ∙ sym f
+pub peek-unique : (κs : _) (a : _) (r q : _) (s u : _) → peek-reads.Post κs a r s → peek-reads.Post κs a q u → r ≡ q
+peek-unique κs a r q s u e f = e ∙ sym f
 
-pub number-at-unique : (κs : _) (a : _) (r q : _) (s : _) →
-    number-at-reads.Post κs a r s → number-at-reads.Post κs a q s → r ≡ q
-number-at-unique κs a r q s e f = e ∙ sym f
+pub number-at-unique : (κs : _) (a : _) (r q : _) (s u : _) →
+    number-at-reads.Post κs a r s → number-at-reads.Post κs a q u → r ≡ q
+number-at-unique κs a r q s u e f = e ∙ sym f
 
-pub row-at-unique : (κs : _) (a : _) (r q : _) (s : _) → row-at-reads.Post κs a r s → row-at-reads.Post κs a q s → r ≡ q
-row-at-unique κs a r q s e f = e ∙ sym f
+pub row-at-unique : (κs : _) (a : _) (r q : _) (s u : _) → row-at-reads.Post κs a r s → row-at-reads.Post κs a q u → r ≡ q
+row-at-unique κs a r q s u e f = e ∙ sym f
 
 pub within-unique : (a : _) (r q : _) (s : _) → within-reads.Post tt a r s → within-reads.Post tt a q s → r ≡ q
 within-unique a r q s e f = e ∙ sym f

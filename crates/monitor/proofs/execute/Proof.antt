@@ -22,11 +22,11 @@ slice-aggregate-execute-all-3 c = search needs
 execute-all-requires : tie.Need-execute-all-requires
 execute-all-requires c κs = search needs
 
-array-read-t34 : tie.Need-array-read-t34
-array-read-t34 c = search needs
+array-read-refusal : tie.Need-array-read-refusal
+array-read-refusal c = search needs
 
-array-read-t37 : tie.Need-array-read-t37
-array-read-t37 c = search needs
+array-read-value : tie.Need-array-read-value
+array-read-value c = search needs
 
 same-length : tie.Need-same-length
 same-length c = search needs
@@ -40,10 +40,13 @@ same-length-3 c = search needs
 same-length-4 : tie.Need-same-length-4
 same-length-4 c = search needs
 
+abbrev start : tie.After-execute-all → tie.Start
+start c = search
+
 returns : tie.Need-returns
 returns c =
     let ran : tie.After-execute-all = search in
-    let s : tie.Start = search in
+    let s = start ran in
     ran-one (st s) (s .args .number) (s .args .x) (s .args .y) (s .args .z) _ _ _ _ (ran .execute-all .ensures)
 
 pub execute-spec : {M : Type 1} → statement M
@@ -54,8 +57,8 @@ execute-spec =
     slice-aggregate-execute-all-2
     slice-aggregate-execute-all-3
     execute-all-requires
-    array-read-t34
-    array-read-t37
+    array-read-refusal
+    array-read-value
     same-length
     same-length-2
     same-length-3

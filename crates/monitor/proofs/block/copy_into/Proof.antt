@@ -31,7 +31,7 @@ loop-less c = search needs
 
 loop-again : tie.Need-loop-again Inv-loop μ-loop
 loop-again c =
-    let at = c .before .before in
+    let at : tie.At-loop Inv-loop μ-loop = search in
     (search needs, (search needs, copied-more _ _ (at .loop .i) (omega arith) (omega arith) (at .loop .inv .1 .1)))
 
 same-length : tie.Need-same-length Inv-loop μ-loop

@@ -69,7 +69,7 @@ shared-slice-read-judge-whole c =
 mul-within-cell : tie.Need-mul-within-cell
 mul-within-cell c =
     let f : tie.After-f = search in
-    omega (arith, inside f .lasts)
+    omega (arith, found f .cell .cell, entry f .pre .sizes .within .cells)
 
 shared-slice-read-within-cell : tie.Need-shared-slice-read-within-cell
 shared-slice-read-within-cell c =

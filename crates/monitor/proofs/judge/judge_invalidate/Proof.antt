@@ -8,12 +8,14 @@ judge-any-requires c κs = search needs
 
 returns : tie.Need-returns
 returns c =
-    last-decides _ _ (c .before .before .judge-any .ensures)
+    let first : tie.After-judge-any = search in
+    last-decides _ _ (first .judge-any .ensures)
     (search needs) (c .before .if1 .taken) (c .if2 .taken)
 
 returns-2 : tie.Need-returns-2
 returns-2 c =
-    last-decides _ _ (c .before .before .judge-any .ensures)
+    let first : tie.After-judge-any = search in
+    last-decides _ _ (first .judge-any .ensures)
     (search needs) (c .before .if1 .taken) (c .if2 .left)
 
 returns-3 : tie.Need-returns-3

@@ -11,12 +11,14 @@ judge-right-requires c κs = search needs
 
 returns : tie.Need-returns
 returns c =
-    last-decides _ _ (c .before .before .judge-right .ensures)
+    let first : tie.After-judge-right = search in
+    last-decides _ _ (first .judge-right .ensures)
     (search needs) (c .before .if1 .taken) (ap not (eq-eqb _ _ (c .if2 .taken)))
 
 returns-2 : tie.Need-returns-2
 returns-2 c =
-    last-decides _ _ (c .before .before .judge-right .ensures)
+    let first : tie.After-judge-right = search in
+    last-decides _ _ (first .judge-right .ensures)
     (search needs) (c .before .if1 .taken) (ap not (ne-eqb _ _ (c .if2 .left)))
 
 returns-3 : tie.Need-returns-3

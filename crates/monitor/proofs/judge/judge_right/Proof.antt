@@ -8,11 +8,15 @@ part-of-requires c κs = search needs
 
 returns : tie.Need-returns
 unfolding firstFailing
-returns c = simp (c .before .before .if1 .taken, ← c .before .part-of .ensures, c .if2 .taken)
+returns c =
+    let valid : tie.Then1 = search in
+    simp (valid .if1 .taken, ← c .before .part-of .ensures, c .if2 .taken)
 
 returns-2 : tie.Need-returns-2
 unfolding firstFailing
-returns-2 c = simp (c .before .before .if1 .taken, ← c .before .part-of .ensures, c .if2 .left)
+returns-2 c =
+    let valid : tie.Then1 = search in
+    simp (valid .if1 .taken, ← c .before .part-of .ensures, c .if2 .left)
 
 returns-3 : tie.Need-returns-3
 unfolding firstFailing

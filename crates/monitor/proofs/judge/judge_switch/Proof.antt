@@ -8,12 +8,14 @@ judge-whole-requires c κs = search needs
 
 returns : tie.Need-returns
 returns c =
-    last-decides _ _ (c .before .before .judge-whole .ensures)
+    let first : tie.After-judge-whole = search in
+    last-decides _ _ (first .judge-whole .ensures)
     (search needs) (c .before .if1 .taken) (c .if2 .taken)
 
 returns-2 : tie.Need-returns-2
 returns-2 c =
-    last-decides _ _ (c .before .before .judge-whole .ensures)
+    let first : tie.After-judge-whole = search in
+    last-decides _ _ (first .judge-whole .ensures)
     (search needs) (c .before .if1 .taken) (c .if2 .left)
 
 returns-3 : tie.Need-returns-3

@@ -35,7 +35,8 @@ loop-less c = search needs
 loop-again : tie.Need-loop-again Inv-loop μ-loop
 loop-again c =
     let at = c .before .loop in
-    let a = c .before .before .args in (
+    let s : tie.Start Inv-loop μ-loop = search in
+    let a = s .args in (
       search needs,
       (
         ap (λ (l : List ℕ). set l (at .k) (a .v)) (at .inv .1 .0) ∙ filled-more (a .v) (at .k) (a .entries .now),
@@ -49,7 +50,8 @@ same-length c = search needs
 returns : tie.Need-returns Inv-loop μ-loop
 returns c =
     let at = c .before .loop in
-    let a = c .before .before .args in
+    let s : tie.Start Inv-loop μ-loop = search in
+    let a = s .args in
     let e : at .k ≡ a .count = omega arith in
     at .inv .1 .0 ∙ ap (λ (j : ℕ). filled (a .v) j (a .entries .now)) e
 

@@ -14,10 +14,14 @@ enum-told-2 : tie.Need-enum-told-2
 enum-told-2 c = search needs
 
 returns : tie.Need-returns
-returns c = somebody-else _ _ _ _ _ (sym (c .before .before .other-holder .ensures) ∙ c .enum-told .given .1)
+returns c =
+    let told : tie.After-other-holder = search in
+    somebody-else _ _ _ _ _ (sym (told .other-holder .ensures) ∙ c .enum-told .given .1)
 
 returns-2 : tie.Need-returns-2
-returns-2 c = nobody-at-all _ _ _ _ (sym (c .before .before .other-holder .ensures) ∙ c .enum-told2 .given .1)
+returns-2 c =
+    let told : tie.After-other-holder = search in
+    nobody-at-all _ _ _ _ (sym (told .other-holder .ensures) ∙ c .enum-told2 .given .1)
 
 pub nobody-else-spec : {M : Type 1} → statement M
 nobody-else-spec =

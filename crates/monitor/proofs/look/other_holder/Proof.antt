@@ -26,7 +26,7 @@ shared-slice-read-if1 c = search needs
 
 returns : tie.Need-returns Inv-loop μ-loop
 returns c =
-    let at = c .before .before in
+    let at : tie.In-loop Inv-loop μ-loop = search in
     other-here _ _ _ _ _ (at .before .loop .inv .1) (at .loop-test .taken) (c .if1 .taken)
 
 add-k : tie.Need-add-k Inv-loop μ-loop
@@ -37,7 +37,7 @@ loop-less c = search needs
 
 loop-again : tie.Need-loop-again Inv-loop μ-loop
 loop-again c =
-    let at = c .before .before in
+    let at : tie.In-loop Inv-loop μ-loop = search in
     (search needs, searched-later _ _ _ (at .before .loop .inv .1) (at .loop-test .taken) (c .if1 .left))
 
 returns-2 : tie.Need-returns-2 Inv-loop μ-loop

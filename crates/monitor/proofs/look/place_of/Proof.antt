@@ -26,7 +26,8 @@ cast-result-2 c = search needs
 
 add-result : tie.Need-add-result
 add-result c =
-    let a = c .before .before .args in
+    let s : tie.Start = search in
+    let a = s .args in
     omega (arith, c .before .shared-slice-known .given (a .c), c .shared-slice-known2 .given (a .c))
 
 returns : tie.Need-returns
