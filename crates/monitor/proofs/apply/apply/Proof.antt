@@ -15,7 +15,7 @@ cast-d c = search needs
 held-at-requires : tie.Need-held-at-requires
 held-at-requires c κs =
     let s : tie.Start = search in
-    own-rights (memory.ready s)
+    own-rights (s .pre .0)
 
 -- ---- switch
 
@@ -33,10 +33,10 @@ same-length-7 c = search needs
 
 returns-4 : tie.Need-returns-4
 returns-4 c =
-    let s : tie.Start = search in
+    let held : tie.After-held-at = search in
     let arm : tie.After-i4 = search in
     let to : tie.After-after-switch = search in
-    switch-done (memory.ready s) (arm .i4 .given .1) (to .after-switch .ensures) (c .accept4 .ensures)
+    switch-done (memory.ready held) (arm .i4 .given .1) (to .after-switch .ensures) (c .accept4 .ensures)
 
 -- ---- invalidate
 
@@ -44,9 +44,7 @@ enum-told : tie.Need-enum-told
 enum-told c = search needs
 
 put-mark-requires : tie.Need-put-mark-requires
-put-mark-requires c κs =
-    let s : tie.Start = search in
-    cell-there (memory.ready s) .marked
+put-mark-requires c κs = cell-there (memory.ready (search)) .marked
 
 cast-accept-4 : tie.Need-cast-accept-4
 cast-accept-4 c = search needs
@@ -62,11 +60,10 @@ same-length-16 c = search needs
 
 returns-9 : tie.Need-returns-9
 returns-9 c =
-    let s : tie.Start = search in
     let held : tie.After-held-at = search in
     let arm : tie.After-enum-told = search in
     let put : tie.After-put-mark = search in
-    invalidate-done (memory.ready s) (arm .enum-told .given .1) (held .held-at .ensures) (put .put-mark .ensures) (c .accept9 .ensures)
+    invalidate-done (memory.ready held) (arm .enum-told .given .1) (held .held-at .ensures) (put .put-mark .ensures) (c .accept9 .ensures)
 
 -- ---- revalidate
 
@@ -74,9 +71,7 @@ enum-told-2 : tie.Need-enum-told-2
 enum-told-2 c = search needs
 
 put-mark-requires-2 : tie.Need-put-mark-requires-2
-put-mark-requires-2 c κs =
-    let s : tie.Start = search in
-    cell-there (memory.ready s) .marked
+put-mark-requires-2 c κs = cell-there (memory.ready (search)) .marked
 
 cast-accept-5 : tie.Need-cast-accept-5
 cast-accept-5 c = search needs
@@ -92,11 +87,10 @@ same-length-18 c = search needs
 
 returns-10 : tie.Need-returns-10
 returns-10 c =
-    let s : tie.Start = search in
     let held : tie.After-held-at = search in
     let arm : tie.After-enum-told2 = search in
     let put : tie.After-put-mark2 = search in
-    revalidate-done (memory.ready s) (arm .enum-told2 .given .1) (held .held-at .ensures) (put .put-mark2 .ensures) (c .accept10 .ensures)
+    revalidate-done (memory.ready held) (arm .enum-told2 .given .1) (held .held-at .ensures) (put .put-mark2 .ensures) (c .accept10 .ensures)
 
 -- ---- exclusive
 
@@ -104,9 +98,7 @@ enum-told-3 : tie.Need-enum-told-3
 enum-told-3 c = search needs
 
 nobody-else-requires : tie.Need-nobody-else-requires
-nobody-else-requires c κs =
-    let s : tie.Start = search in
-    row-there (memory.ready s)
+nobody-else-requires c κs = row-there (memory.ready (search))
 
 cast-accept-6 : tie.Need-cast-accept-6
 cast-accept-6 c = search needs
@@ -119,10 +111,10 @@ same-length-19 c = search needs
 
 returns-11 : tie.Need-returns-11
 returns-11 c =
-    let s : tie.Start = search in
+    let held : tie.After-held-at = search in
     let arm : tie.After-enum-told3 = search in
     let told : tie.After-nobody-else = search in
-    exclusive-done (memory.ready s) (arm .enum-told3 .given .1) (told .nobody-else .ensures) (c .accept11 .ensures)
+    exclusive-done (memory.ready held) (arm .enum-told3 .given .1) (told .nobody-else .ensures) (c .accept11 .ensures)
 
 pub apply-spec : {M : Type 1} → statement M
 apply-spec =

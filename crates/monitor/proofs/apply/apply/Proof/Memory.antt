@@ -13,8 +13,11 @@ use Rattle.monitor.proofs.apply.apply.Lts as lts
 abbrev pub st : tie.Start → State
 st c = state (lentOf (lts.dens _ _ _ _ (c .args))) (c .args .registers)
 
-pub ready : (c : tie.Start) → Ready (st c) (c .args .i) (c .args .c)
-ready c = c .pre .0
+abbrev pub start : tie.After-held-at → tie.Start
+start c = search
+
+pub ready : (c : tie.After-held-at) → Ready (st (start c)) (start c .args .i) (start c .args .c)
+ready c = start c .pre .0
 
 -- ---- load
 
@@ -23,15 +26,15 @@ enum-known-i c = search needs
 
 pub place-of-requires : tie.Need-place-of-requires
 place-of-requires c κs =
-    let s : tie.Start = search in
+    let held : tie.After-held-at = search in
     let arm : tie.After-i = search in
-    place-there (ready s) (arm .i .given .1)
+    place-there (ready held) (arm .i .given .1)
 
 pub byte-in-requires : tie.Need-byte-in-requires
 byte-in-requires c κs =
-    let s : tie.Start = search in
+    let held : tie.After-held-at = search in
     let arm : tie.After-i = search in
-    rw (c .place-of .ensures) (byte-there (ready s) (arm .i .given .1))
+    rw (c .place-of .ensures) (byte-there (ready held) (arm .i .given .1))
 
 pub accept-requires : tie.Need-accept-requires
 accept-requires c κs = search needs
@@ -44,11 +47,11 @@ same-length-2 c = search needs
 
 pub returns : tie.Need-returns
 returns c =
-    let s : tie.Start = search in
+    let held : tie.After-held-at = search in
     let arm : tie.After-i = search in
     let at : tie.After-place-of = search in
     let told : tie.After-byte-in = search in
-    load-done (ready s) (arm .i .given .1) (at .place-of .ensures) (told .byte-in .ensures .0) (c .accept .ensures)
+    load-done (ready held) (arm .i .given .1) (at .place-of .ensures) (told .byte-in .ensures .0) (c .accept .ensures)
 
 -- ---- store
 
@@ -57,15 +60,15 @@ enum-known-i-2 c = search needs
 
 pub place-of-requires-2 : tie.Need-place-of-requires-2
 place-of-requires-2 c κs =
-    let s : tie.Start = search in
+    let held : tie.After-held-at = search in
     let arm : tie.After-i2 = search in
-    place-there (ready s) (arm .i2 .given .1)
+    place-there (ready held) (arm .i2 .given .1)
 
 pub put-byte-requires : tie.Need-put-byte-requires
 put-byte-requires c κs =
-    let s : tie.Start = search in
+    let held : tie.After-held-at = search in
     let arm : tie.After-i2 = search in
-    rw (c .place-of2 .ensures) (byte-there (ready s) (arm .i2 .given .1))
+    rw (c .place-of2 .ensures) (byte-there (ready held) (arm .i2 .given .1))
 
 pub accept-requires-2 : tie.Need-accept-requires-2
 accept-requires-2 c κs = search needs
@@ -78,11 +81,11 @@ same-length-4 c = search needs
 
 pub returns-2 : tie.Need-returns-2
 returns-2 c =
-    let s : tie.Start = search in
+    let held : tie.After-held-at = search in
     let arm : tie.After-i2 = search in
     let at : tie.After-place-of2 = search in
     let put : tie.After-put-byte = search in
-    store-done (ready s) (arm .i2 .given .1) (at .place-of2 .ensures) (put .put-byte .ensures) (c .accept2 .ensures)
+    store-done (ready held) (arm .i2 .given .1) (at .place-of2 .ensures) (put .put-byte .ensures) (c .accept2 .ensures)
 
 -- ---- fetch
 
@@ -91,15 +94,15 @@ enum-known-i-3 c = search needs
 
 pub place-of-requires-3 : tie.Need-place-of-requires-3
 place-of-requires-3 c κs =
-    let s : tie.Start = search in
+    let held : tie.After-held-at = search in
     let arm : tie.After-i3 = search in
-    place-there (ready s) (arm .i3 .given .1)
+    place-there (ready held) (arm .i3 .given .1)
 
 pub word-in-requires : tie.Need-word-in-requires
 word-in-requires c κs =
-    let s : tie.Start = search in
+    let held : tie.After-held-at = search in
     let arm : tie.After-i3 = search in
-    rw (c .place-of3 .ensures) (fetch-there (ready s) (arm .i3 .given .1) (s .pre .1))
+    rw (c .place-of3 .ensures) (fetch-there (ready held) (arm .i3 .given .1) (start held .pre .1))
 
 pub accept-requires-3 : tie.Need-accept-requires-3
 accept-requires-3 c κs = search needs
@@ -112,8 +115,8 @@ same-length-6 c = search needs
 
 pub returns-3 : tie.Need-returns-3
 returns-3 c =
-    let s : tie.Start = search in
+    let held : tie.After-held-at = search in
     let arm : tie.After-i3 = search in
     let at : tie.After-place-of3 = search in
     let told : tie.After-word-in = search in
-    fetch-done (ready s) (arm .i3 .given .1) (at .place-of3 .ensures) (told .word-in .ensures) (c .accept3 .ensures)
+    fetch-done (ready held) (arm .i3 .given .1) (at .place-of3 .ensures) (told .word-in .ensures) (c .accept3 .ensures)
