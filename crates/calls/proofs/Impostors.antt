@@ -9,7 +9,7 @@ use native.Mathlib.Omega.{arith}
 use lib.ListN.{getD}
 use denote.Ref.{now}
 use Rattle.rules.specs.Below.{every, count, lowestFrom, lowest}
-use Rattle.rules.specs.Numbers.{Tables, State, inBounds, rightLengths, partOf, larger, join}
+use Rattle.rules.specs.Numbers.{Tables, tables, State, state, inBounds, rightLengths, partOf, larger, join}
 use Rattle.rules.specs.Lent.{Slice, Passed, lentOf, restOf}
 use Rattle.rules.specs.Sound.{soundGrant, holders, afterCellBefore, soundCell, soundTables, lowestUnsound}
 use Rattle.rules.specs.Refusals.{Outcome, firstFailing, answered, wellSized, knownDivisions}
@@ -17,8 +17,10 @@ use Rattle.rules.specs.Instructions.{noOperands, byteOperand, divisionOperand, 
 use Rattle.rules.specs.Calls.{kindChecks, checks, doneAt, done, performed}
 use Rattle.rules.specs.Bench.{listed}
 use Rattle.rules.specs.declared.Registers.{Registers}
+use Rattle.rules.proofs.Laws.{shape-kept}
 use Rattle.monitor.specs.Runs.{instructionAt, roomFor, afterFirst, answersIn, Ran}
 use Rattle.monitor.specs.declared.reply.Reply.{Reply}
+use Rattle.monitor.proofs.Running.{no-part}
 use Rattle.monitor.proofs.Unique.{lists, answers}
 use Rattle.monitor.proofs.execute.Reads as execute-reads
 use Rattle.monitor.proofs.execute_all.Reads as execute-all-reads
@@ -62,6 +64,36 @@ one number x y z = lending (number, (x, (y, (z, tt))))
 -- what document 01 answers to it
 abbrev answer : One → Outcome
 answer a = performed (stateOf a) (instructionOf a)
+
+-- somebody meets the contract: whoever answers as document 01 does
+replyOf : One → Reply
+replyOf a = record { number = answer a .number; value = answer a .value; registers = answer a .after .registers }
+
+exitOf : One → One
+exitOf a =
+    let t = answer a .after .lent in (
+      a .0,
+      (
+        lend (t .first),
+        (
+          lend (t .last),
+          (lend (t .offset), (lend (t .marks), (lend (t .rights), (lend (t .grants), (lend (t .memory), restOf a))))),
+        ),
+      ),
+    )
+
+pub contract-met : (κs : _) (a : One) → execute-reads.Post κs a (replyOf a) (exitOf a)
+contract-met κs a =
+    let s = stateOf a in
+    let t = answer a .after .lent in
+    let m = shape-kept s (instructionOf a) .divisions in
+    let p = no-part s (restOf a .1 .0) (restOf a .1 .1 .0) (restOf a .1 .1 .1 .0) (restOf a .1 .1 .1 .1 .0) in
+    λ i. record {
+      number = answer a .number;
+      value = answer a .value;
+      part = sym p i;
+      after = state (tables (sym m i) (t .first) (t .last) (t .offset) (t .marks) (t .rights) (t .grants) (t .memory)) (answer a .after .registers);
+    }
 
 -- three closed cases: load 4096 is accepted with the byte there; load 4104 is refused; protect 4096 to read is accepted with
 -- the rights that it leaves, and leaves them

@@ -1,6 +1,7 @@
 -- The text of a listing as a whole: its lines in their order, and the lowest line that breaks it. Each kind goes on while a
 -- line of it stands there that is allowed. The line at which it stops is the first of a later kind, or wrong. So the lowest
--- wrong line is the first that must be of a kind (`cells`, `size`, `core`, or the end of the text) and is not. Assumes nothing.
+-- wrong line is the first that must be of a kind (`cells`, `size`, `core`, or the end of the text) and is not. That it is the
+-- lowest, said of right listings (`First`), is proved in proofs/Lowest.antt. Assumes nothing.
 use Prim.Native.Nat.{ℕ, _+_, _*_}
 use mathlib.Core.List.{List, [], _∷_, _++_}
 use mathlib.Core.Bool.{Bool, cond, _&&_}

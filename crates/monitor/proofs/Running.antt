@@ -119,7 +119,7 @@ unfolding doneAt
 formed-no-part s (wellFormed i) = refl
 formed-no-part s (illFormed n) = refl
 
-no-part : (s : State) (number x y z : ℕ) → performed s (instruction number x y z) .part ≡ []
+pub no-part : (s : State) (number x y z : ℕ) → performed s (instruction number x y z) .part ≡ []
 unfolding done
 no-part s number x y z =
     by-outcome (λ o. o .part ≡ []) s (instruction number x y z) (λ n k. refl) (λ h. formed-no-part s (formedIn s number x y z))

@@ -1,6 +1,7 @@
+use Prim.Native.Nat.{_≤_}
 use mathlib.Core.Path.{sym, ap, _∙_}
 use native.Mathlib.Omega.{arith}
-use lib.ListN.{length-take}
+use lib.ListN.{length, length-take}
 use borrow.Author.Tests.{not-true, not-false}
 use Rattle.text.specs.declared.line.Row.{Row}
 use Rattle.text.proofs.Writing.{put-nothing, put-then}
@@ -19,6 +20,13 @@ head-put c = search
 
 abbrev room-found : tie.After-put-head → tie.Else1
 room-found c = search
+
+-- where the head was read, the text is within its bound
+abbrev entry : tie.After-head-row → tie.Start
+entry c = search
+
+short : (c : tie.After-head-row) → length (entry c .args .s .now) ≤ 65536
+short c = omega (arith, c .before .if2 .left)
 
 returns : tie.Need-returns
 returns c =
@@ -39,10 +47,11 @@ returns-2 c =
     let told : tie.After-put-bad = search in
     let refused : tie.Then2 = search in
     let at : tie.After-put-head = search in
+    let s : tie.Start = search in
     let room = room-found at .if1 .left in
     let bad = told .put-bad .ensures in
     ends-inside room (omega (arith, bad .1, at .put-head .ensures .1))
-    (rw (← text-long _ _ room (refused .if2 .taken)) (put-then (at .put-head .ensures .0) (bad .0)))
+    (rw (← text-long _ (s .args .s .now) room (omega (arith, refused .if2 .taken))) (put-then (at .put-head .ensures .0) (bad .0)))
 
 head-row-requires : tie.Need-head-row-requires
 head-row-requires c κs = search needs
@@ -62,7 +71,7 @@ returns-3 c =
     let room = room-found at .if1 .left in
     let bad = told .put-bad2 .ensures in
     ends-inside room (omega (arith, bad .1, at .put-head .ensures .1))
-    (rw (← head-wrong _ _ room (head .before .if2 .left) _ (head .head-row .ensures) (not-true _ (refused .if3 .taken)))
+    (rw (← head-wrong _ _ room (short head) _ (head .head-row .ensures) (not-true _ (refused .if3 .taken)))
     (put-then (at .put-head .ensures .0) (bad .0)))
 
 size-row-requires : tie.Need-size-row-requires
@@ -84,7 +93,7 @@ returns-4 c =
     let room = room-found at .if1 .left in
     let bad = told .put-bad3 .ensures in
     ends-inside room (omega (arith, bad .1, at .put-head .ensures .1))
-    (rw (← size-wrong _ _ room (head .before .if2 .left) _ (head .head-row .ensures) (not-false _ (size .before .if3 .left)) _
+    (rw (← size-wrong _ _ room (short head) _ (head .head-row .ensures) (not-false _ (size .before .if3 .left)) _
     (size .size-row .ensures) (not-true _ (refused .if4 .taken))) (put-then (at .put-head .ensures .0) (bad .0)))
 
 array-read-run-cells : tie.Need-array-read-run-cells
@@ -103,7 +112,7 @@ run-cells-requires c κs =
       rw e (few .0),
       rw e (few .1),
       rw e (size-bytes _ _),
-      omega (arith, head .before .if2 .left),
+      omega (arith, short head),
       record { head = at .put-head .ensures .1; room = omega (arith, room-found at .if1 .left, at .put-head .kept .0) },
     )
 
@@ -120,7 +129,7 @@ returns-5 c =
     let room = room-found at .if1 .left in
     let rest = ran .run-cells .ensures in
     ends-inside room (rest .1)
-    (rw (← size-right _ _ room (head .before .if2 .left) _ (head .head-row .ensures) (not-false _ (size .before .if3 .left)) _
+    (rw (← size-right _ _ room (short head) _ (head .head-row .ensures) (not-false _ (size .before .if3 .left)) _
     (size .size-row .ensures) (not-false _ (passed .if4 .left))) (put-then (at .put-head .ensures .0) (rest .0)))
 
 pub cellrun-spec : {M : Type 1} → statement M

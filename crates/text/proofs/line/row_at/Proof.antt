@@ -10,7 +10,7 @@ bad-row-requires : tie.Need-bad-row-requires
 bad-row-requires c κs = search needs
 
 returns : tie.Need-returns
-returns c = c .bad-row .ensures ∙ row-too-many _ _ _ _ (c .before .if1 .taken)
+returns c = c .bad-row .ensures ∙ row-too-many _ _ _ _ (omega (arith, c .before .if1 .taken))
 
 word-at-requires : tie.Need-word-at-requires
 word-at-requires c κs = search needs
@@ -29,14 +29,14 @@ returns-2 c =
     let few : tie.Else1 = search in
     let found : tie.Then2 = search in
     c .fields-at .ensures
-    ∙ row-fields _ _ _ _ (few .if1 .left) (sym (found .before .word-at .ensures .0) ∙ found .if2 .taken)
+    ∙ row-fields _ _ _ _ (omega (arith, few .if1 .left)) (sym (found .before .word-at .ensures .0) ∙ found .if2 .taken)
 
 returns-3 : tie.Need-returns-3
 returns-3 c =
     let few : tie.Else1 = search in
     let missing : tie.Else2 = search in
     c .bad-row2 .ensures
-    ∙ row-no-word _ _ _ _ (few .if1 .left) (sym (missing .before .word-at .ensures .0) ∙ missing .if2 .left)
+    ∙ row-no-word _ _ _ _ (omega (arith, few .if1 .left)) (sym (missing .before .word-at .ensures .0) ∙ missing .if2 .left)
 
 pub row-at-spec : {M : Type 1} → statement M
 row-at-spec =

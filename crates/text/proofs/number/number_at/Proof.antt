@@ -1,4 +1,5 @@
 -- One case of `Numbers` for each return, by what `run_at` found.
+use native.Mathlib.Omega.{arith}
 use borrow.Author.Needs.{needs}
 use mathlib.Core.Path.{sym, _∙_}
 use Rattle.text.proofs.Numbers.{number-empty, number-large, number-zero, number-padded, number-plain}
@@ -17,7 +18,7 @@ returns-2 : tie.Need-returns-2
 returns-2 c =
     let run : tie.After-run-at = search in
     let some : tie.Else1 = search in
-    number-large _ _ (run .run-at .ensures .0) (run .run-at .ensures .1) (some .if1 .left) (c .if2 .taken)
+    number-large _ _ (run .run-at .ensures .0) (run .run-at .ensures .1) (some .if1 .left) (omega (arith, c .if2 .taken))
 
 peek-requires : tie.Need-peek-requires
 peek-requires c κs = search needs
@@ -37,7 +38,7 @@ returns-3 c =
     let some : tie.Else1 = search in
     let fits : tie.Else2 = search in
     let zero : tie.Then3 = search in
-    number-zero _ _ (run .run-at .ensures .0) (run .run-at .ensures .1) (some .if1 .left) (fits .if2 .left)
+    number-zero _ _ (run .run-at .ensures .0) (run .run-at .ensures .1) (some .if1 .left) (omega (arith, fits .if2 .left))
     (sym (zero .before .peek .ensures) ∙ zero .if3 .taken)
     (c .if4 .taken)
 
@@ -47,7 +48,7 @@ returns-4 c =
     let some : tie.Else1 = search in
     let fits : tie.Else2 = search in
     let zero : tie.Then3 = search in
-    number-padded _ _ (run .run-at .ensures .0) (run .run-at .ensures .1) (some .if1 .left) (fits .if2 .left)
+    number-padded _ _ (run .run-at .ensures .0) (run .run-at .ensures .1) (some .if1 .left) (omega (arith, fits .if2 .left))
     (sym (zero .before .peek .ensures) ∙ zero .if3 .taken)
     (c .if4 .left)
 
@@ -56,7 +57,7 @@ returns-5 c =
     let run : tie.After-run-at = search in
     let some : tie.Else1 = search in
     let fits : tie.Else2 = search in
-    number-plain _ _ (run .run-at .ensures .0) (run .run-at .ensures .1) (some .if1 .left) (fits .if2 .left)
+    number-plain _ _ (run .run-at .ensures .0) (run .run-at .ensures .1) (some .if1 .left) (omega (arith, fits .if2 .left))
     (λ e. c .if3 .left (c .before .peek .ensures ∙ e))
 
 pub number-at-spec : {M : Type 1} → statement M

@@ -24,7 +24,7 @@ at-loop c = search
 digit-inside : (c : tie.Else2 Inv-loop μ-loop) → at-loop c .loop .i < length (start c .args .s .now)
 digit-inside c =
     let read : tie.After-peek Inv-loop μ-loop = search in
-    run-inside (at-loop c .loop .inv) (read .peek .ensures) (c .if2 .left)
+    run-inside (at-loop c .loop .inv) (read .peek .ensures) (omega (arith, c .if2 .left))
 
 loop-holds : tie.Need-loop-holds Inv-loop μ-loop
 loop-holds c = run-starts _ _
@@ -41,7 +41,7 @@ returns-2 : tie.Need-returns-2 Inv-loop μ-loop
 returns-2 c =
     let turn : tie.At-loop Inv-loop μ-loop = search in
     let read : tie.After-peek Inv-loop μ-loop = search in
-    run-ends-above (turn .loop .inv) (read .peek .ensures) (c .if2 .taken)
+    run-ends-above (turn .loop .inv) (read .peek .ensures) (omega (arith, c .if2 .taken))
 
 shift-requires : tie.Need-shift-requires Inv-loop μ-loop
 shift-requires c κs = search needs
@@ -57,7 +57,7 @@ loop-again c =
     let turn : tie.At-loop Inv-loop μ-loop = search in
     let read : tie.After-peek Inv-loop μ-loop = search in
     let digit : tie.Else2 Inv-loop μ-loop = search in
-    run-turns (turn .loop .inv) (read .peek .ensures) (digit .before .if1 .left) (digit .if2 .left)
+    run-turns (turn .loop .inv) (read .peek .ensures) (digit .before .if1 .left) (omega (arith, digit .if2 .left))
     (c .shift .ensures)
 
 pub run-at-spec : {M : Type 1} → statement M

@@ -6,7 +6,10 @@ use Rattle.text.proofs.put.row_has_room.Statement.{statement}
 use Rattle.text.proofs.put.row_has_room.Tie as tie
 
 returns : tie.Need-returns
-returns c = row-room-many _ _ _ _ (c .if1 .taken)
+returns c =
+    let s : tie.Start = search in
+    let a = s .args in
+    row-room-many (a .at) (a .word) (a .k) (a .len) (omega (arith, c .if1 .taken))
 
 has-room-requires : tie.Need-has-room-requires
 has-room-requires c κs = search needs
@@ -29,12 +32,14 @@ has-room-requires-2 c κs = search needs
 returns-2 : tie.Need-returns-2
 returns-2 c =
     let few : tie.Else1 = search in
-    row-room-fields _ _ _ _ (few .if1 .left) (c .has-room2 .ensures)
+    let a = few .before .args in
+    row-room-fields (a .at) (a .word) (a .k) (a .len) (omega (arith, few .if1 .left)) (c .has-room2 .ensures)
 
 returns-3 : tie.Need-returns-3
 returns-3 c =
     let few : tie.Else1 = search in
-    row-room-no-word _ _ _ _ (few .if1 .left) (c .before .has-room .ensures) (c .if2 .left)
+    let a = few .before .args in
+    row-room-no-word (a .at) (a .word) (a .k) (a .len) (omega (arith, few .if1 .left)) (c .before .has-room .ensures) (c .if2 .left)
 
 pub row-has-room-spec : {M : Type 1} → statement M
 row-has-room-spec =
