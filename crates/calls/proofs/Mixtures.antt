@@ -91,6 +91,19 @@ call-end (view-call κs a r e) = sym (view-kept (stateOf a) (restOf a .1 .0) (re
 call-end (view-answer-call κs a r e) = sym (view-kept (stateOf a) (restOf a .1 .0) (restOf a .1 .1 .0))
 call-end (view-place-call κs a r e) = sym (view-kept (stateOf a) (restOf a .1 .0) (restOf a .1 .1 .0))
 
+-- so it is a run of the definition, and demand 3 holds of it by itself: of the rights held where it returns, and of the bytes
+-- that differ from those that it was lent
+call-called : {s u : State} {acts : List Action} → Call s acts u → Called s acts (outcomes s acts) u
+call-called {s} {u} {acts} c = subst (Called s acts (outcomes s acts)) (sym (call-end c)) (called-run s acts)
+
+pub call-rights : {s u : State} {acts : List Action} → Call s acts u → (c d : ℕ) (r : Right) → holdsIn (u .lent) c d r ≡ true
+    → Held (shown (steps acts) s) c r (length acts) d
+call-rights c = called-history (call-called c)
+
+pub call-bytes : {s u : State} {acts : List Action} → Call s acts u → (p : ℕ)
+    → getD (u .lent .memory) p 0 ≢ getD (s .lent .memory) p 0 → LastWritten (steps acts) s 0 (length acts) p
+call-bytes c = called-bytes (call-called c)
+
 -- ---- any mixture of calls, one after the other
 
 pub data Made : State → List Action → State → Type 0 where
