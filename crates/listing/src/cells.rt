@@ -14,7 +14,7 @@ pub fn cells_at(
     marks: &mut [u8],
 ) -> Passed
     requires { (length first.old ≡ 256) × (length last.old ≡ 256) × (length offset.old ≡ 256) × (length marks.old ≡ 256) }
-    ensures at_value { cells_at s.now at
+    ensures value { cells_at s.now at
         ≡ record {
           next = result.next;
           first = take result.count first.new;
@@ -22,7 +22,7 @@ pub fn cells_at(
           offset = take result.count offset.new;
           marks = take result.count marks.new;
         } }
-    ensures count_bound { result.count ≤ 256 }
+    ensures few { result.count ≤ 256 }
 {
     let mut i = at;
     let mut n = 0;

@@ -8,9 +8,9 @@ use crate::lines::{Passed, do_row};
 // 65,536 has no more than 5,957.
 pub fn dos_at(s: &[u8], at: usize, list: &mut [u32]) -> Passed
     requires { (length s.now ≤ 65536) × (length list.old ≡ 23828) }
-    ensures at_value { dos_at s.now at
+    ensures value { dos_at s.now at
         ≡ record { count = result.count; next = result.next; numbers = take (4 * result.count) list.new } }
-    ensures count_bound { result.count ≤ 5957 }
+    ensures few { result.count ≤ 5957 }
 {
     let mut i = at;
     let mut n = 0;

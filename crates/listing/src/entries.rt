@@ -62,8 +62,8 @@ fn entry_at(s: &[u8], at: usize, kind: Kind) -> Entry
 // The lines of a kind from a place on, and their values in the list.
 pub fn fill_bytes(s: &[u8], at: usize, kind: Kind, list: &mut [u8]) -> Passed
     requires { (SmallKind kind) × (size_of kind ≡ length list.old) }
-    ensures filled_as { FilledAs (entries_at (line_of kind s.now) (length s.now) at list.old) result list.new }
-    ensures count_in_bounds { result.count ≤ length s.now }
+    ensures filled { FilledAs (entries_at (line_of kind s.now) (length s.now) at list.old) result list.new }
+    ensures few { result.count ≤ length s.now }
 {
     let mut i = at;
     let mut least = 0;

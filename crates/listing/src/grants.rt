@@ -24,8 +24,8 @@ fn grant_at(s: &[u8], at: usize, n: u32, m: u32) -> Entry
 // The grant lines of n cells and m divisions.
 pub fn fill_grants(s: &[u8], at: usize, n: u32, m: u32, list: &mut [u16]) -> Passed
     requires { (n ≤ 256) × (1 ≤ m) × (m ≤ 32) × (n * m ≡ length list.old) }
-    ensures filled_as { FilledAs (entries_at (grant_at n m s.now) (length s.now) at list.old) result list.new }
-    ensures count_in_bounds { result.count ≤ length s.now }
+    ensures filled { FilledAs (entries_at (grant_at n m s.now) (length s.now) at list.old) result list.new }
+    ensures few { result.count ≤ length s.now }
 {
     let mut i = at;
     let mut least = 0;

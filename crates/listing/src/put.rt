@@ -13,7 +13,7 @@ use text::put_row;
 pub fn put_head(out: &mut [u8]) -> usize
     requires { 17 ≤ length out.old }
     ensures puts { Puts out 0 (line1 cells_word 1) result }
-    ensures upper_bound { result ≤ 17 }
+    ensures ends { result ≤ 17 }
 {
     put_row(out, 0, b"cells", [1, 0, 0, 0, 0], 1)
 }
@@ -22,7 +22,7 @@ pub fn put_head(out: &mut [u8]) -> usize
 pub fn put_bad(out: &mut [u8], at: usize, line: u32) -> usize
     requires { at + 15 ≤ length out.old }
     ensures puts { Puts out at (line1 bad_word line) result }
-    ensures upper_bound { result ≤ at + 15 }
+    ensures ends { result ≤ at + 15 }
 {
     put_row(out, at, b"bad", [line, 0, 0, 0, 0], 1)
 }
@@ -37,7 +37,7 @@ pub fn put_answers(
 ) -> usize
     requires { (count ≤ 5957) × (count ≤ length numbers.now) × (count ≤ length values.now) × (at + 34 * count + 6 ≤ length out.old) }
     ensures puts { Puts out at (lines_of (answer_of numbers.now values.now) 0 count) result }
-    ensures upper_bound { result ≤ at + 34 * count }
+    ensures ends { result ≤ at + 34 * count }
 {
     let mut i = at;
     let mut k = 0;
@@ -58,7 +58,7 @@ pub fn put_answers(
 pub fn put_core(out: &mut [u8], at: usize, r: Registers) -> usize
     requires { at + 38 ≤ length out.old }
     ensures puts { Puts out at (core_line r) result }
-    ensures upper_bound { result ≤ at + 38 }
+    ensures ends { result ≤ at + 38 }
 {
     put_row(out, at, b"core", [r.current, r.caller, r.place, 0, 0], 3)
 }
@@ -78,7 +78,7 @@ fn wide_entry(x: u16) -> u32
 fn put_right(out: &mut [u8], at: usize, m: usize, rights: &[u8], e: usize) -> usize
     requires { (1 ≤ m) × (m ≤ 32) × (e ≤ 8191) × (e + 1 ≤ length rights.now) × (at + 39 ≤ length out.old) }
     ensures puts { Puts out at (right_line m rights.now e) result }
-    ensures upper_bound { result ≤ at + 18 }
+    ensures ends { result ≤ at + 18 }
 {
     let h = wide(rights[e]);
     if h == 0 {
@@ -97,7 +97,7 @@ fn put_right(out: &mut [u8], at: usize, m: usize, rights: &[u8], e: usize) -> us
 pub fn put_rights(out: &mut [u8], at: usize, m: usize, rights: &[u8]) -> usize
     requires { (1 ≤ m) × (m ≤ 32) × (length rights.now ≤ 8192) × (at + 18 * length rights.now + 21 ≤ length out.old) }
     ensures puts { Puts out at (lines_of (right_line m rights.now) 0 (length rights.now)) result }
-    ensures upper_bound { result ≤ at + 18 * length rights.now }
+    ensures ends { result ≤ at + 18 * length rights.now }
 {
     let mut i = at;
     let mut e = 0;
@@ -111,7 +111,7 @@ pub fn put_rights(out: &mut [u8], at: usize, m: usize, rights: &[u8]) -> usize
 fn put_grant(out: &mut [u8], at: usize, m: usize, grants: &[u16], e: usize) -> usize
     requires { (1 ≤ m) × (m ≤ 32) × (e ≤ 8191) × (e + 1 ≤ length grants.now) × (at + 50 ≤ length out.old) }
     ensures puts { Puts out at (grant_line m grants.now e) result }
-    ensures upper_bound { result ≤ at + 22 }
+    ensures ends { result ≤ at + 22 }
 {
     let g = wide_entry(grants[e]);
     if g == 0 {
@@ -130,7 +130,7 @@ fn put_grant(out: &mut [u8], at: usize, m: usize, grants: &[u16], e: usize) -> u
 pub fn put_grants(out: &mut [u8], at: usize, m: usize, grants: &[u16]) -> usize
     requires { (1 ≤ m) × (m ≤ 32) × (length grants.now ≤ 8192) × (at + 22 * length grants.now + 28 ≤ length out.old) }
     ensures puts { Puts out at (lines_of (grant_line m grants.now) 0 (length grants.now)) result }
-    ensures upper_bound { result ≤ at + 22 * length grants.now }
+    ensures ends { result ≤ at + 22 * length grants.now }
 {
     let mut i = at;
     let mut e = 0;
@@ -152,7 +152,7 @@ pub fn put_state(
 ) -> usize
     requires { (1 ≤ m) × (m ≤ 32) × (length rights.now ≤ 8192) × (length grants.now ≤ 8192) × (at + 327746 ≤ length out.old) }
     ensures puts { Puts out at (state_lines r m rights.now grants.now) result }
-    ensures upper_bound { result ≤ at + 327718 }
+    ensures ends { result ≤ at + 327718 }
 {
     let a = put_core(out, at, r);
     let b = put_rights(out, a, m, rights);

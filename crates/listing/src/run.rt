@@ -70,12 +70,12 @@ fn run_instructions(
     out: &mut [u8],
     at: usize,
 ) -> usize
-    requires numbers_len { (length numbers.old ≡ 5957) × (length values.old ≡ 5957) }
-    requires le_m { (1 ≤ m) × (m ≤ 32) × (length rights.old ≤ 8192) × (length grants.old ≤ 8192)
+    requires answers { (length numbers.old ≡ 5957) × (length values.old ≡ 5957) }
+    requires sizes { (1 ≤ m) × (m ≤ 32) × (length rights.old ≤ 8192) × (length grants.old ≤ 8192)
         × (length instructions.now ≡ 4 * count) × (count ≤ 5957) × Roomy at out.old }
     ensures puts { Puts out at (body_of (theRun (state (before m first last offset marks rights grants memory) registers) count
         instructions.now)) result }
-    ensures upper_bound { result ≤ output_room }
+    ensures ends { result ≤ output_room }
 {
     let after = execute_all(
         m,
@@ -115,7 +115,7 @@ fn run_core(
         × (length s.now ≤ 65536) × (line ≤ 262144) × Roomy at out.old }
     ensures puts { Puts out at (body_of (from_core s.now line
         (before m first last offset marks rights grants memory) (core_row s.now next))) result }
-    ensures upper_bound { result ≤ output_room }
+    ensures ends { result ≤ output_room }
 {
     let core = core_row(s, next);
     let v = core.v;
@@ -171,11 +171,11 @@ fn run_rights(
     out: &mut [u8],
     at: usize,
 ) -> usize
-    requires le_m { (1 ≤ m) × (m ≤ 32) × (l ≤ 65536) × (length first.now ≤ 256) × (length s.now ≤ 65536) × Roomy at out.old }
-    requires rights_value { (rights.old ≡ zeros (length first.now * m)) × (grants.old ≡ zeros (length first.now * m)) × (memory.old ≡ zeros l) }
+    requires sizes { (1 ≤ m) × (m ≤ 32) × (l ≤ 65536) × (length first.now ≤ 256) × (length s.now ≤ 65536) × Roomy at out.old }
+    requires zeros { (rights.old ≡ zeros (length first.now * m)) × (grants.old ≡ zeros (length first.now * m)) × (memory.old ≡ zeros l) }
     ensures puts { Puts out at (body_of (from_rights s.now m l
         (record { next = next; first = first.now; last = last.now; offset = offset.now; marks = marks.old }))) result }
-    ensures upper_bound { result ≤ output_room }
+    ensures ends { result ≤ output_room }
 {
     let n = first.len();
     let a = fill_bytes(s, next, Kind::Right(n as u32, m), rights);
@@ -191,7 +191,7 @@ fn run_rights(
 fn run_cells(s: &[u8], next: usize, m: u32, l: u32, out: &mut [u8], at: usize) -> usize
     requires { (1 ≤ m) × (m ≤ 32) × (l ≤ 65536) × (length s.now ≤ 65536) × Roomy at out.old }
     ensures puts { Puts out at (body_of (from_rights s.now m l (cells_at s.now next))) result }
-    ensures upper_bound { result ≤ output_room }
+    ensures ends { result ≤ output_room }
 {
     let mut first = [0u32; 256];
     let mut last = [0u32; 256];

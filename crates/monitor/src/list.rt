@@ -51,7 +51,7 @@ pub fn run_list(
     values: &mut [u32],
 ) -> Registers
     requires begun { Begun (state (given m first last offset marks rights grants memory) registers) }
-    requires count_in_bounds { (4 * count ≤ length instructions.now) × ((count ≤ length numbers.old) × (count ≤ length values.old)) }
+    requires room { (4 * count ≤ length instructions.now) × ((count ≤ length numbers.old) × (count ≤ length values.old)) }
     ensures { ran (state (after m first last offset marks rights grants memory) result) numbers.new values.new
         ≡ run_first (state (before m first last offset marks rights grants memory) registers) instructions.now count numbers.old values.old }
 {

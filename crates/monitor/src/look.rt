@@ -105,8 +105,8 @@ pub fn entry_word(
     c: usize,
     x: u32,
 ) -> bool
-    requires c_in_bounds { (c < length first.now) × ((c < length offset.now) × (get_or first.now c 0 ≤ x)) }
-    requires c_in_bounds_2 { whole ≡ true → get_or offset.now c 0 + x - get_or first.now c 0 + 3 < length memory.now }
+    requires inside { (c < length first.now) × ((c < length offset.now) × (get_or first.now c 0 ≤ x)) }
+    requires whole_inside { whole ≡ true → get_or offset.now c 0 + x - get_or first.now c 0 + 3 < length memory.now }
     ensures { result ≡ (whole && eqb (word_in memory.now (get_or offset.now c 0 + x - get_or first.now c 0)) entry_word) }
 {
     if whole {

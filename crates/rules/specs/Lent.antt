@@ -33,7 +33,7 @@ refers s = record { place = s.ref_ptr; list = s.now }
 
 -- the part of a lent list of bytes that begins at its byte a, and in which l stands; a byte takes one place
 abbrev pub part_of_lent : Slice → (a : ℕ) → List ℕ → Reference
-part_of_lent s a l = record { place = (s.ptr.0, a + s.ptr.1); list = l }
+part_of_lent s a l = record { place = (s.ref_ptr.0, a + s.ref_ptr.1); list = l }
 
 -- ---- the arguments of a call as one tuple, as the toolchain hands them to a proof
 

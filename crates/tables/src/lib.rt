@@ -138,9 +138,9 @@ fn sound_cell(
     memory: &[u8],
     c: usize,
 ) -> bool
-    requires memory_value { well_sized (given m first last offset marks rights grants memory) ≡ true }
-    requires c_in_bounds { c < length first.now }
-    requires c_value { excess m rights.now c ≡ false }
+    requires sized { well_sized (given m first last offset marks rights grants memory) ≡ true }
+    requires inside { c < length first.now }
+    requires moderate { excess m rights.now c ≡ false }
     ensures { result ≡ sound_cell (before m first last offset marks rights grants memory) c }
 {
     let start = c * m;

@@ -31,7 +31,7 @@ fn bad_row() -> Row
 // Whether a word stands at a place. Where it does the place after it is a `usize`, which `row_at` then computes.
 fn word_at(s: &[u8], at: usize, word: &[u8]) -> bool
     ensures value { result ≡ word_at s.now at word.now }
-    ensures word_bound { result ≡ true → at + length word.now ≤ 18446744073709551615 }
+    ensures fits { result ≡ true → at + length word.now ≤ 18446744073709551615 }
 {
     let mut i = at;
     let mut j = 0;

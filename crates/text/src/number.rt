@@ -42,8 +42,8 @@ fn shift(v: u64, c: u16) -> u64
 
 // The run of digits at a place, which may be empty.
 fn run_at(s: &[u8], at: usize) -> Run
-    ensures value_value { result.value ≡ min (value_from 0 (drop at s.now)) 4294967296 }
-    ensures next_value { result.next ≡ at + digits_in (drop at s.now) }
+    ensures value { result.value ≡ min (value_from 0 (drop at s.now)) 4294967296 }
+    ensures next { result.next ≡ at + digits_in (drop at s.now) }
 {
     let mut i = at;
     let mut v: u64 = 0;

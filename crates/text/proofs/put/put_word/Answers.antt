@@ -1,0 +1,17 @@
+-- The two cases of `Room`: with room and without.
+use lib.ListN.{length}
+use borrow.Author.Rules.{rules}
+use Rattle.text.proofs.Room.{room_for, word_put, word_not_put}
+use Rattle.text.proofs.put.put_word.Goals as goal
+
+pub write_word-requires : goal.write_word-requires
+write_word-requires c =
+    room_for c.args.at (length c.args.word.now) (length c.args.out.now) c.has_room.ensures
+    c.if-has_room.true
+
+pub returns-then-has_room : goal.returns-then-has_room
+returns-then-has_room c =
+    word_put c.has_room.ensures c.if-has_room.true c.write_word.ensures
+
+pub returns-else-has_room : goal.returns-else-has_room
+returns-else-has_room c = word_not_put _ c.has_room.ensures c.if-has_room.false
