@@ -1,8 +1,7 @@
 // The monitor's calls for programs in C or Rust that link the static library: each is one call of `monitor`, under its
 // contract. A slice is passed as a pointer and a length. The header is include/cells.h.
 ghost use Rattle.std.specs.Prelude.{◌≡◌};
-ghost use Rattle.rules.specs.Numbers.{state};
-ghost use Rattle.rules.specs.Lent.{before, after};
+ghost use Rattle.rules.specs.Numbers.{tables, state};
 ghost use Rattle.rules.specs.Calls.{instruction, block_write, performed};
 ghost use Rattle.monitor.specs.Answers.{came, view_place_in};
 ghost use Rattle.monitor.specs.Runs.{ran, run_all};
@@ -27,8 +26,8 @@ pub extern "C" fn cells_execute(
     y: u32,
     z: u32,
 ) -> Reply
-    ensures { came result (after m first last offset marks rights grants memory)
-        ≡ performed (state (before m first last offset marks rights grants memory) registers) (instruction number x y z) }
+    ensures { came result (tables m first.now last.now offset.now marks.new rights.new grants.new memory.new)
+        ≡ performed (state (tables m first.now last.now offset.now marks.old rights.old grants.old memory.old) registers) (instruction number x y z) }
 {
     monitor::execute(
         m, first, last, offset, marks, rights, grants, memory, registers, number, x, y, z,
@@ -51,8 +50,8 @@ pub extern "C" fn cells_execute_all(
     numbers: &mut [u32],
     values: &mut [u32],
 ) -> Registers
-    ensures { ran (state (after m first last offset marks rights grants memory) result) numbers.new values.new
-        ≡ run_all (state (before m first last offset marks rights grants memory) registers) instructions.now numbers.old values.old }
+    ensures { ran (state (tables m first.now last.now offset.now marks.new rights.new grants.new memory.new) result) numbers.new values.new
+        ≡ run_all (state (tables m first.now last.now offset.now marks.old rights.old grants.old memory.old) registers) instructions.now numbers.old values.old }
 {
     monitor::execute_all(
         m,
@@ -85,8 +84,8 @@ pub extern "C" fn cells_write_block(
     x: u32,
     bytes: &[u8],
 ) -> Reply
-    ensures { came result (after m first last offset marks rights grants memory)
-        ≡ performed (state (before m first last offset marks rights grants memory) registers) (block_write x bytes.now) }
+    ensures { came result (tables m first.now last.now offset.now marks.now rights.now grants.now memory.new)
+        ≡ performed (state (tables m first.now last.now offset.now marks.now rights.now grants.now memory.old) registers) (block_write x bytes.now) }
 {
     monitor::write_block(
         m, first, last, offset, marks, rights, grants, memory, registers, x, bytes,
@@ -108,7 +107,7 @@ pub extern "C" fn cells_view(
     x: u32,
     n: usize,
 ) -> ViewPlace
-    ensures { result ≡ view_place_in (state (before m first last offset marks rights grants memory) registers) x n }
+    ensures { result ≡ view_place_in (state (tables m first.now last.now offset.now marks.now rights.now grants.now memory.now) registers) x n }
 {
     monitor::view_place(
         m, first, last, offset, marks, rights, grants, memory, registers, x, n,

@@ -2,8 +2,7 @@
 // a text that is wrong leaves at the stage where it is.
 ghost use Rattle.std.specs.Prelude.{◌≡◌, ◌+◌, ◌*◌, ◌≤◌, length};
 ghost use Rattle.text.specs.Text.{Puts, Ends};
-ghost use Rattle.rules.specs.Numbers.{state};
-ghost use Rattle.rules.specs.Lent.{before};
+ghost use Rattle.rules.specs.Numbers.{tables, state};
 ghost use Rattle.listing.specs.Lines.{core_row};
 ghost use Rattle.listing.specs.Listing.{run as theRun, from_core, from_rights, cells_at, zeros};
 ghost use Rattle.listing.specs.Output.{body_of};
@@ -73,7 +72,7 @@ fn run_instructions(
     requires answers { (length numbers.old ≡ 5957) × (length values.old ≡ 5957) }
     requires sizes { (1 ≤ m) × (m ≤ 32) × (length rights.old ≤ 8192) × (length grants.old ≤ 8192)
         × (length instructions.now ≡ 4 * count) × (count ≤ 5957) × Roomy at out.old }
-    ensures puts { Puts out at (body_of (theRun (state (before m first last offset marks rights grants memory) registers) count
+    ensures puts { Puts out at (body_of (theRun (state (tables m first.now last.now offset.now marks.old rights.old grants.old memory.old) registers) count
         instructions.now)) result }
     ensures ends { result ≤ output_room }
 {
@@ -114,7 +113,7 @@ fn run_core(
     requires { (1 ≤ m) × (m ≤ 32) × (length rights.old ≤ 8192) × (length grants.old ≤ 8192)
         × (length s.now ≤ 65536) × (line ≤ 262144) × Roomy at out.old }
     ensures puts { Puts out at (body_of (from_core s.now line
-        (before m first last offset marks rights grants memory) (core_row s.now next))) result }
+        (tables m first.now last.now offset.now marks.old rights.old grants.old memory.old) (core_row s.now next))) result }
     ensures ends { result ≤ output_room }
 {
     let core = core_row(s, next);

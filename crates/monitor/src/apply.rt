@@ -1,7 +1,6 @@
 // What an accepted instruction does. These only write, and cannot refuse.
 ghost use Rattle.std.specs.Prelude.{◌≡◌, ◌+◌, ◌-◌, ◌*◌, ◌≤◌, ◌<◌, length, get_or, set};
-ghost use Rattle.rules.specs.Numbers.{state, join, grant_entry, rights_in};
-ghost use Rattle.rules.specs.Lent.{given, before, after};
+ghost use Rattle.rules.specs.Numbers.{tables, state, join, grant_entry, rights_in};
 ghost use Rattle.rules.specs.Instructions.{needs};
 ghost use Rattle.rules.specs.Calls.{done_at};
 ghost use Rattle.rules.proofs.Checks.{AllHold};
@@ -81,10 +80,10 @@ pub fn apply(
     c: usize,
     i: Instruction,
 ) -> Reply
-    requires ready { Ready (state (given m first last offset marks rights grants memory) registers) i c }
-    requires all_hold { AllHold (needs (given m first last offset marks rights grants memory) registers.current c i) }
-    ensures { came result (after m first last offset marks rights grants memory)
-        ≡ done_at (state (before m first last offset marks rights grants memory) registers) c i }
+    requires ready { Ready (state (tables m first.now last.now offset.now marks.old rights.old grants.old memory.old) registers) i c }
+    requires all_hold { AllHold (needs (tables m first.now last.now offset.now marks.old rights.old grants.old memory.old) registers.current c i) }
+    ensures { came result (tables m first.now last.now offset.now marks.new rights.new grants.new memory.new)
+        ≡ done_at (state (tables m first.now last.now offset.now marks.old rights.old grants.old memory.old) registers) c i }
 {
     let d = registers.current as usize;
     let held = held_at(m, rights, c, d);

@@ -1,7 +1,6 @@
 // Blocks of bytes: where one lies, and how it is filled.
 ghost use Rattle.std.specs.Prelude.{◌≡◌, length};
-ghost use Rattle.rules.specs.Numbers.{state};
-ghost use Rattle.rules.specs.Lent.{given, before};
+ghost use Rattle.rules.specs.Numbers.{tables, state};
 ghost use Rattle.rules.specs.Blocks.{within_cell};
 ghost use Rattle.rules.proofs.Kept.{Begun};
 ghost use Rattle.monitor.specs.Leaves.{located_in};
@@ -46,8 +45,8 @@ pub fn locate(
     x: u32,
     n: usize,
 ) -> Located
-    requires { Begun (state (given m first last offset marks rights grants memory) registers) }
-    ensures { result ≡ located_in needed (state (before m first last offset marks rights grants memory) registers) x n }
+    requires { Begun (state (tables m first.now last.now offset.now marks.now rights.now grants.now memory.now) registers) }
+    ensures { result ≡ located_in needed (state (tables m first.now last.now offset.now marks.now rights.now grants.now memory.now) registers) x n }
 {
     let f = find(first, last, x);
     match f {

@@ -1,8 +1,7 @@
 // The checks of each instruction on the cell that covers its address: these only look. The answer is the number of the
 // first check to fail, or 0.
 ghost use Rattle.std.specs.Prelude.{◌≡◌, [], ◌∷◌, not, eqb};
-ghost use Rattle.rules.specs.Numbers.{state, part_of, execute};
-ghost use Rattle.rules.specs.Lent.{given, before};
+ghost use Rattle.rules.specs.Numbers.{tables, state, part_of, execute};
 ghost use Rattle.rules.specs.Instructions.{needs};
 ghost use Rattle.monitor.specs.Ready.{Ready};
 ghost use Rattle.rules.specs.Refusals.{not_valid, not_whole, right_missing, no_grant, other_holds, not_entry, same_rights, ◌unless◌, first_failing};
@@ -112,8 +111,8 @@ pub fn judge(
     c: usize,
     i: Instruction,
 ) -> u32
-    requires { Ready (state (given m first last offset marks rights grants memory) registers) i c }
-    ensures { result ≡ first_failing (needs (before m first last offset marks rights grants memory) registers.current c i) }
+    requires { Ready (state (tables m first.now last.now offset.now marks.now rights.now grants.now memory.now) registers) i c }
+    ensures { result ≡ first_failing (needs (tables m first.now last.now offset.now marks.now rights.now grants.now memory.now) registers.current c i) }
 {
     let d = registers.current as usize;
     let valid = marks[c] == 1;

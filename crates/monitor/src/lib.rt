@@ -11,8 +11,8 @@ mod step;
 
 ghost use Rattle.std.specs.Prelude.{◌≡◌, ◌&&◌, ltb};
 ghost use Rattle.monitor.specs.Runs.{ran, run_all};
-ghost use Rattle.rules.specs.Numbers.{state};
-ghost use Rattle.rules.specs.Lent.{before, after, refers, part_of_lent};
+ghost use Rattle.rules.specs.Numbers.{tables, state};
+ghost use Rattle.rules.specs.Lent.{refers, part_of_lent};
 ghost use Rattle.rules.specs.Calls.{instruction, block_write, read_view, performed};
 ghost use Rattle.monitor.specs.Answers.{came, answer_in, view_place_in};
 ghost use Rattle.monitor.specs.Ready.{first_answer};
@@ -43,7 +43,7 @@ fn begin(
     memory: &[u8],
     registers: Registers,
 ) -> Answer
-    ensures { result ≡ first_answer (state (before m first last offset marks rights grants memory) registers) }
+    ensures { result ≡ first_answer (state (tables m first.now last.now offset.now marks.now rights.now grants.now memory.now) registers) }
 {
     let checked = tables::check(m, first, last, offset, marks, rights, grants, memory);
     let n = checked.number;
@@ -80,8 +80,8 @@ pub fn execute_all(
     numbers: &mut [u32],
     values: &mut [u32],
 ) -> Registers
-    ensures { ran (state (after m first last offset marks rights grants memory) result) numbers.new values.new
-        ≡ run_all (state (before m first last offset marks rights grants memory) registers) instructions.now numbers.old values.old }
+    ensures { ran (state (tables m first.now last.now offset.now marks.new rights.new grants.new memory.new) result) numbers.new values.new
+        ≡ run_all (state (tables m first.now last.now offset.now marks.old rights.old grants.old memory.old) registers) instructions.now numbers.old values.old }
 {
     let count = room_for(instructions.len(), numbers.len(), values.len());
     let begun = begin(
@@ -127,8 +127,8 @@ pub fn execute(
     y: u32,
     z: u32,
 ) -> Reply
-    ensures { came result (after m first last offset marks rights grants memory)
-        ≡ performed (state (before m first last offset marks rights grants memory) registers) (instruction number x y z) }
+    ensures { came result (tables m first.now last.now offset.now marks.new rights.new grants.new memory.new)
+        ≡ performed (state (tables m first.now last.now offset.now marks.old rights.old grants.old memory.old) registers) (instruction number x y z) }
 {
     let instruction = [number, x, y, z];
     let mut numbers = [0u32; 1];
@@ -171,7 +171,7 @@ fn place_block(
     x: u32,
     n: usize,
 ) -> Located
-    ensures { result ≡ placed_in needed (state (before m first last offset marks rights grants memory) registers) x n }
+    ensures { result ≡ placed_in needed (state (tables m first.now last.now offset.now marks.now rights.now grants.now memory.now) registers) x n }
 {
     let begun = begin(
         m, first, last, offset, marks, rights, grants, memory, registers,
@@ -200,8 +200,8 @@ pub fn write_block(
     x: u32,
     bytes: &[u8],
 ) -> Reply
-    ensures { came result (after m first last offset marks rights grants memory)
-        ≡ performed (state (before m first last offset marks rights grants memory) registers) (block_write x bytes.now) }
+    ensures { came result (tables m first.now last.now offset.now marks.now rights.now grants.now memory.new)
+        ≡ performed (state (tables m first.now last.now offset.now marks.now rights.now grants.now memory.old) registers) (block_write x bytes.now) }
 {
     let located = place_block(
         rules::WRITE,
@@ -241,8 +241,8 @@ pub fn view<'a>(
     x: u32,
     n: usize,
 ) -> &'a [u8]
-    ensures { refers result ≡ part_of_lent memory.entry (view_place_in (state (before m first last offset marks rights grants memory) registers) x n).start
-        (performed (state (before m first last offset marks rights grants memory) registers) (read_view x n)).part }
+    ensures { refers result ≡ part_of_lent memory.entry (view_place_in (state (tables m first.now last.now offset.now marks.now rights.now grants.now memory.now) registers) x n).start
+        (performed (state (tables m first.now last.now offset.now marks.now rights.now grants.now memory.now) registers) (read_view x n)).part }
 {
     let located = place_block(
         rules::READ,
@@ -281,7 +281,7 @@ pub fn view_answer(
     x: u32,
     n: usize,
 ) -> Answer
-    ensures { result ≡ answer_in (performed (state (before m first last offset marks rights grants memory) registers) (read_view x n)) }
+    ensures { result ≡ answer_in (performed (state (tables m first.now last.now offset.now marks.now rights.now grants.now memory.now) registers) (read_view x n)) }
 {
     let located = place_block(
         rules::READ,
@@ -320,7 +320,7 @@ pub fn view_place(
     x: u32,
     n: usize,
 ) -> ViewPlace
-    ensures { result ≡ view_place_in (state (before m first last offset marks rights grants memory) registers) x n }
+    ensures { result ≡ view_place_in (state (tables m first.now last.now offset.now marks.now rights.now grants.now memory.now) registers) x n }
 {
     let located = place_block(
         rules::READ,

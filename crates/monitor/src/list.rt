@@ -1,7 +1,6 @@
 // Instructions one after the other, on tables that are checked once.
 ghost use Rattle.std.specs.Prelude.{◌≡◌, ◌*◌, ◌≤◌, length};
-ghost use Rattle.rules.specs.Numbers.{state};
-ghost use Rattle.rules.specs.Lent.{given, before, after};
+ghost use Rattle.rules.specs.Numbers.{tables, state};
 ghost use Rattle.rules.proofs.Kept.{Begun};
 ghost use Rattle.monitor.specs.Runs.{room_for, ran, run_first};
 ghost use Rattle.monitor.specs.Leaves.{filled};
@@ -50,10 +49,10 @@ pub fn run_list(
     numbers: &mut [u32],
     values: &mut [u32],
 ) -> Registers
-    requires begun { Begun (state (given m first last offset marks rights grants memory) registers) }
+    requires begun { Begun (state (tables m first.now last.now offset.now marks.old rights.old grants.old memory.old) registers) }
     requires room { (4 * count ≤ length instructions.now) × ((count ≤ length numbers.old) × (count ≤ length values.old)) }
-    ensures { ran (state (after m first last offset marks rights grants memory) result) numbers.new values.new
-        ≡ run_first (state (before m first last offset marks rights grants memory) registers) instructions.now count numbers.old values.old }
+    ensures { ran (state (tables m first.now last.now offset.now marks.new rights.new grants.new memory.new) result) numbers.new values.new
+        ≡ run_first (state (tables m first.now last.now offset.now marks.old rights.old grants.old memory.old) registers) instructions.now count numbers.old values.old }
 {
     let mut core = registers;
     let mut k: usize = 0;

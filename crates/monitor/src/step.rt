@@ -1,7 +1,6 @@
 // One well-formed instruction: the cell that covers its address is found, its checks are made, and then it is done.
 ghost use Rattle.std.specs.Prelude.{◌≡◌};
-ghost use Rattle.rules.specs.Numbers.{state};
-ghost use Rattle.rules.specs.Lent.{given, before, after};
+ghost use Rattle.rules.specs.Numbers.{tables, state};
 ghost use Rattle.rules.specs.Instructions.{address_of};
 ghost use Rattle.rules.specs.Calls.{instruction, performed};
 ghost use Rattle.rules.proofs.Decoding.{InRange};
@@ -55,10 +54,10 @@ pub fn step(
     registers: Registers,
     i: Instruction,
 ) -> Reply
-    requires begun { Begun (state (given m first last offset marks rights grants memory) registers) }
+    requires begun { Begun (state (tables m first.now last.now offset.now marks.old rights.old grants.old memory.old) registers) }
     requires in_range { InRange m registers.current i }
-    ensures { came result (after m first last offset marks rights grants memory)
-        ≡ kind_performed (state (before m first last offset marks rights grants memory) registers) i }
+    ensures { came result (tables m first.now last.now offset.now marks.new rights.new grants.new memory.new)
+        ≡ kind_performed (state (tables m first.now last.now offset.now marks.old rights.old grants.old memory.old) registers) i }
 {
     let f = find(first, last, address_of(i));
     match f {
@@ -96,9 +95,9 @@ pub fn perform(
     y: u32,
     z: u32,
 ) -> Answered
-    requires { Begun (state (given m first last offset marks rights grants memory) registers) }
-    ensures { listed result.position (came result.reply (after m first last offset marks rights grants memory))
-        ≡ listed position (performed (state (before m first last offset marks rights grants memory) registers) (instruction number x y z)) }
+    requires { Begun (state (tables m first.now last.now offset.now marks.old rights.old grants.old memory.old) registers) }
+    ensures { listed result.position (came result.reply (tables m first.now last.now offset.now marks.new rights.new grants.new memory.new))
+        ≡ listed position (performed (state (tables m first.now last.now offset.now marks.old rights.old grants.old memory.old) registers) (instruction number x y z)) }
 {
     let decoded = rules::decode(m as u32, registers.current, position, number, x, y, z);
     match decoded {

@@ -3,8 +3,7 @@
 // joined by `&` and `|`, or counted, so that the loops vectorise; the way out is at a cell.
 ghost use Rattle.std.specs.Prelude.{◌≡◌, true, false, not, ◌&&◌, ◌||◌, ◌+◌, ◌*◌, ◌≤◌, ◌<◌, length, get_or, leb, ltb, eqb};
 ghost use Rattle.rules.specs.Below.{every, count, lowest};
-ghost use Rattle.rules.specs.Numbers.{in_bounds};
-ghost use Rattle.rules.specs.Lent.{given, before};
+ghost use Rattle.rules.specs.Numbers.{tables, in_bounds};
 ghost use Rattle.rules.specs.Sound.{sound_grant, after_cell_before, sound_cell, lowest_unsound};
 ghost use Rattle.rules.specs.Refusals.{well_sized};
 ghost use Rattle.tables.specs.Check.{excess, tables_checked};
@@ -138,10 +137,10 @@ fn sound_cell(
     memory: &[u8],
     c: usize,
 ) -> bool
-    requires sized { well_sized (given m first last offset marks rights grants memory) ≡ true }
+    requires sized { well_sized (tables m first.now last.now offset.now marks.now rights.now grants.now memory.now) ≡ true }
     requires inside { c < length first.now }
     requires moderate { excess m rights.now c ≡ false }
-    ensures { result ≡ sound_cell (before m first last offset marks rights grants memory) c }
+    ensures { result ≡ sound_cell (tables m first.now last.now offset.now marks.now rights.now grants.now memory.now) c }
 {
     let start = c * m;
     let end = start + m;
@@ -185,8 +184,8 @@ fn lowest_unsound(
     grants: &[u16],
     memory: &[u8],
 ) -> usize
-    requires { well_sized (given m first last offset marks rights grants memory) ≡ true }
-    ensures { result ≡ lowest_unsound (before m first last offset marks rights grants memory) }
+    requires { well_sized (tables m first.now last.now offset.now marks.now rights.now grants.now memory.now) ≡ true }
+    ensures { result ≡ lowest_unsound (tables m first.now last.now offset.now marks.now rights.now grants.now memory.now) }
 {
     let end = lowest_excess(m, first.len(), rights);
     let mut c = 0;
@@ -218,7 +217,7 @@ fn well_sized(
     grants: &[u16],
     memory: &[u8],
 ) -> bool
-    ensures { result ≡ well_sized (before m first last offset marks rights grants memory) }
+    ensures { result ≡ well_sized (tables m first.now last.now offset.now marks.now rights.now grants.now memory.now) }
 {
     let n = first.len();
     if in_bounds(m, n, memory.len()) {
@@ -245,7 +244,7 @@ pub fn check(
     grants: &[u16],
     memory: &[u8],
 ) -> Answer
-    ensures { result ≡ tables_checked (before m first last offset marks rights grants memory) }
+    ensures { result ≡ tables_checked (tables m first.now last.now offset.now marks.now rights.now grants.now memory.now) }
 {
     if well_sized(m, first, last, offset, marks, rights, grants, memory) {
         let c = lowest_unsound(m, first, last, offset, marks, rights, grants, memory);

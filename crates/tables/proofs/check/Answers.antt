@@ -2,8 +2,7 @@ use mathlib.Core.Path.{◌≡◌, sym, ◌∙◌}
 use mathlib.Core.Bool.{true}
 use native.Mathlib.Omega.{arith}
 use borrow.Author.Rules.{rules}
-use Rattle.rules.specs.Numbers.{Tables}
-use Rattle.rules.specs.Lent.{given}
+use Rattle.rules.specs.Numbers.{Tables, tables}
 use Rattle.rules.specs.Refusals.{well_sized}
 use Rattle.rules.proofs.Sizes.{sized}
 use Rattle.tables.proofs.Laws.{unsound_le, checked_outside, checked_sound, checked_unsound}
@@ -11,9 +10,9 @@ use Rattle.tables.proofs.check.Goals as goal
 use Rattle.tables.proofs.check.Goals.{Start, Then-well_sized}
 
 abbrev lent : Start → Tables
-lent c = given c.args.m c.args.first c.args.last c.args.offset c.args.marks c.args.rights c.args.grants c.args.memory
+lent c = tables c.args.m c.args.first.now c.args.last.now c.args.offset.now c.args.marks.now c.args.rights.now c.args.grants.now c.args.memory.now
 
-sizes_passed : (c : Then-well_sized) → well_sized (given c.args.m c.args.first c.args.last c.args.offset c.args.marks c.args.rights c.args.grants c.args.memory) ≡ true
+sizes_passed : (c : Then-well_sized) → well_sized (tables c.args.m c.args.first.now c.args.last.now c.args.offset.now c.args.marks.now c.args.rights.now c.args.grants.now c.args.memory.now) ≡ true
 sizes_passed c = sym c.well_sized.ensures ∙ c.if-well_sized.true
 
 pub lowest_unsound-c-requires : goal.lowest_unsound-c-requires

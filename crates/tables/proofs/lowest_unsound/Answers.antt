@@ -4,7 +4,6 @@ use mathlib.Core.Bool.{not}
 use native.Mathlib.Omega.{arith}
 use borrow.Author.Rules.{rules}
 use Rattle.rules.specs.Numbers.{Tables, tables, N}
-use Rattle.rules.specs.Lent.{given}
 use Rattle.rules.specs.Sound.{sound_cell}
 use Rattle.rules.proofs.Below.{Searched, searched_none}
 use Rattle.rules.proofs.Sizes.{sized, entries_few}
@@ -13,10 +12,10 @@ use Rattle.tables.proofs.lowest_unsound.Goals as goal
 use Rattle.tables.proofs.lowest_unsound.Goals.{In-loop-c, Start}
 
 abbrev lent : Start → Tables
-lent c = given c.args.m c.args.first c.args.last c.args.offset c.args.marks c.args.rights c.args.grants c.args.memory
+lent c = tables c.args.m c.args.first.now c.args.last.now c.args.offset.now c.args.marks.now c.args.rights.now c.args.grants.now c.args.memory.now
 
 -- the cell that is looked at
-its_cell : (c : In-loop-c) → Moderate (given c.args.m c.args.first c.args.last c.args.offset c.args.marks c.args.rights c.args.grants c.args.memory)
+its_cell : (c : In-loop-c) → Moderate (tables c.args.m c.args.first.now c.args.last.now c.args.offset.now c.args.marks.now c.args.rights.now c.args.grants.now c.args.memory.now)
     c.loop-c.c
 its_cell c =
     before_excess _ _ _ c.lowest_excess-end.ensures c.loop-c-test.true

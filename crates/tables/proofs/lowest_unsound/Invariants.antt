@@ -5,7 +5,6 @@ use mathlib.Core.Bool.{not}
 use native.Mathlib.Omega.{arith}
 use borrow.Author.Rules.{rules}
 use Rattle.rules.specs.Numbers.{Tables, tables, N}
-use Rattle.rules.specs.Lent.{given}
 use Rattle.rules.specs.Sound.{sound_cell}
 use Rattle.rules.proofs.Below.{Searched, searched_none}
 use Rattle.rules.proofs.Sizes.{sized, entries_few}
