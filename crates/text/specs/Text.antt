@@ -2,7 +2,7 @@
 -- and where in a lent buffer it then stands. Assumes nothing.
 use Rattle.std.specs.Prelude.{ℕ, zero, suc, ◌+◌, ◌*◌, ◌/◌, ◌%◌, ◌≤◌, min, max, ◌≡◌, List, [], ◌∷◌, ◌++◌, cond, length, get_or, take, leb, ltb}
 use Rattle.std.proofs.lemmas.List.Edits.{sets}
-use Rattle.std.specs.Borrow.{Bor}
+use Rattle.std.specs.Borrow.{MutBor}
 use denote.Triple.Both.{Both}
 use Rattle.text.specs.Line.{tab, line_feed}
 
@@ -34,7 +34,7 @@ pub record Put (before : List ℕ) (at : ℕ) (t : List ℕ) (r : ℕ) (after : 
   pub bytes : after ≡ sets before at t
 
 -- the same of a lent buffer, as it was and as it comes back
-abbrev pub Puts : Both (Bor (List ℕ)) (Bor (List ℕ)) → (at : ℕ) (t : List ℕ) (r : ℕ) → Type 0
+abbrev pub Puts : Both (MutBor (List ℕ)) (MutBor (List ℕ)) → (at : ℕ) (t : List ℕ) (r : ℕ) → Type 0
 Puts out at t r = Put out.entry.now at t r out.exit.now
 
 -- the text t, where the buffer has n bytes from a place on, and nothing where it has not

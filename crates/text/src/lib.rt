@@ -1,5 +1,7 @@
 // Reads and writes text of decimal numbers: lines of a keyword and up to five numbers, and the fields and words that
 // they are made of. No public function has a `requires`: each contract is an equation for every text, place and buffer.
+#![tactic(auto)]
+
 mod line;
 mod number;
 mod put;

@@ -1,10 +1,9 @@
-use Prim.Native.Nat.{◌-◌, ◌<◌}
+use Prim.Native.Nat.{◌<◌}
 use mathlib.Core.Path.{sym, ◌∙◌}
 use native.Mathlib.Omega.{arith}
 use lib.ListN.{length}
-use borrow.Author.Rules.{rules}
 use Rattle.text.proofs.Digits.{peek_inside}
-use Rattle.text.proofs.Lines.{Reading, fields_start, fields_go_on, fields_end}
+use Rattle.text.proofs.Lines.{fields_start, fields_go_on, fields_end}
 use Rattle.text.proofs.Lines.{fields_no_tab, fields_no_number, fields_no_end}
 use Rattle.text.proofs.line.fields_at.Goals as goal
 
@@ -29,13 +28,13 @@ returns-in_default c =
     c.bad_row-in_default.ensures
     ∙ fields_no_number c.loop-j.invariant c.loop-j-test.true
     (sym c.peek.ensures ∙ c.if-peek-ne-TAB.false)
-    (sym c.number_at.ensures ∙ c.enum_told-1.is)
+    (sym c.number_at.ensures ∙ c.in_default.is)
 
 pub loop-j-preserved : goal.loop-j-preserved
 loop-j-preserved c =
     fields_go_on c.loop-j.invariant c.loop-j-test.true
     (sym c.peek.ensures ∙ c.if-peek-ne-TAB.false)
-    (sym c.number_at.ensures ∙ c.x-1.is)
+    (sym c.number_at.ensures ∙ c.in-Number.is)
 
 pub overflow_add-result : goal.overflow_add-result
 overflow_add-result c =

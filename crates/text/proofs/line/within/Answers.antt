@@ -1,7 +1,6 @@
 -- One case of `Lines`, "a row within limits", for each return.
 use native.Mathlib.Omega.{arith}
 use mathlib.Core.Path.{◌∙◌}
-use borrow.Author.Rules.{rules}
 use Rattle.text.proofs.Lines.{within_no_entry, within_low, within_high, within_limits}
 use Rattle.text.proofs.line.within.Goals as goal
 

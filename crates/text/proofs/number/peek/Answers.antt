@@ -1,6 +1,5 @@
 -- The byte where the place lies in the text, and 256 past it: `Digits`, the byte at a place.
 use mathlib.Core.Path.{◌∙◌}
-use borrow.Author.Rules.{rules}
 use Rattle.text.proofs.Digits.{peek_byte, peek_past}
 use Rattle.text.proofs.number.peek.Goals as goal
 

@@ -1,9 +1,6 @@
--- The loop's invariant: it has come to the place `i` with the value `v` (`Running`, of `Digits`). Each turn passes a
-use Prim.Native.Nat.{◌-◌, ◌<◌}
-use native.Mathlib.Omega.{arith}
+use Prim.Native.Nat.{◌-◌}
 use lib.ListN.{length}
-use borrow.Author.Rules.{rules}
-use Rattle.text.proofs.Digits.{Running, run_starts, run_ends_below, run_ends_above, run_inside, run_turns}
+use Rattle.text.proofs.Digits.{Running}
 use Rattle.text.proofs.number.run_at.Given as goal
 
 -- The loop's invariant: it has come to the place `i` with the value `v` (`Running`, of `Digits`). Each turn passes a

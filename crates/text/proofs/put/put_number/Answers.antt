@@ -1,6 +1,5 @@
 -- The two cases of `Room`: with room and without.
 use lib.ListN.{length}
-use borrow.Author.Rules.{rules}
 use Rattle.text.proofs.Room.{room_for, number_put, number_not_put}
 use Rattle.text.proofs.put.put_number.Goals as goal
 
@@ -10,7 +9,10 @@ write_number-requires c =
 
 pub returns-then-has_room : goal.returns-then-has_room
 returns-then-has_room c =
-    number_put _ c.has_room.ensures c.if-has_room.true c.write_number.ensures
+    let p = number_put c.args.n c.has_room.ensures c.if-has_room.true c.write_number.ensures in
+    record { puts = p.0; ends = p.1 }
 
 pub returns-else-has_room : goal.returns-else-has_room
-returns-else-has_room c = number_not_put _ c.has_room.ensures c.if-has_room.false
+returns-else-has_room c =
+    let p = number_not_put c.args.n c.has_room.ensures c.if-has_room.false in
+    record { puts = p.0; ends = p.1 }

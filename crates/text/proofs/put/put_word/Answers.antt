@@ -1,6 +1,5 @@
 -- The two cases of `Room`: with room and without.
 use lib.ListN.{length}
-use borrow.Author.Rules.{rules}
 use Rattle.text.proofs.Room.{room_for, word_put, word_not_put}
 use Rattle.text.proofs.put.put_word.Goals as goal
 
@@ -11,7 +10,10 @@ write_word-requires c =
 
 pub returns-then-has_room : goal.returns-then-has_room
 returns-then-has_room c =
-    word_put c.has_room.ensures c.if-has_room.true c.write_word.ensures
+    let p = word_put c.has_room.ensures c.if-has_room.true c.write_word.ensures in
+    record { puts = p.0; ends = p.1 }
 
 pub returns-else-has_room : goal.returns-else-has_room
-returns-else-has_room c = word_not_put _ c.has_room.ensures c.if-has_room.false
+returns-else-has_room c =
+    let p = word_not_put c.args.word.now c.has_room.ensures c.if-has_room.false in
+    record { puts = p.0; ends = p.1 }

@@ -1,10 +1,8 @@
 -- The three cases of `Room`: too many numbers, no room for the word, or the room behind the word.
 use native.Mathlib.Omega.{arith}
-use borrow.Author.Rules.{rules}
 use Rattle.text.proofs.Room.{room_for, row_room_many, row_room_no_word, row_room_fields}
 use Rattle.text.proofs.put.row_has_room.Goals as goal
 
--- The three cases of `Room`: too many numbers, no room for the word, or the room behind the word.
 pub returns-then-k-gt5 : goal.returns-then-k-gt5
 returns-then-k-gt5 c =
     let a = c.args in

@@ -1,7 +1,5 @@
-use Prim.Native.Nat.{◌-◌}
 use mathlib.Core.Path.{◌∙◌}
-use borrow.Author.Rules.{rules}
-use Rattle.text.proofs.Writing.{Listed, listed_none, listed_more, listed_all}
+use Rattle.text.proofs.Writing.{listed_none, listed_more, listed_all}
 use Rattle.text.proofs.write.write_fields.Goals as goal
 
 pub loop-j-init : goal.loop-j-init
@@ -10,7 +8,7 @@ loop-j-init c = listed_none _ _ _ _ c.requires.1
 pub loop-j-preserved : goal.loop-j-preserved
 loop-j-preserved c =
     listed_more c.loop-j.invariant c.loop-j-test.true c.write_byte-i.ensures
-    c.write_number-i.ensures (c.write_number-i.kept.0 ∙ c.write_byte-i.kept.0)
+    c.write_number-i.ensures (c.write_number-i.auto.out ∙ c.write_byte-i.auto.out)
 
 pub returns : goal.returns
 returns c =

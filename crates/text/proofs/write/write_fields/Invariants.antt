@@ -1,8 +1,5 @@
--- The loop's invariant: `j` of the `k` numbers are written, `i` is the place after them, and there is room for the rest
 use Prim.Native.Nat.{◌-◌}
-use mathlib.Core.Path.{◌∙◌}
-use borrow.Author.Rules.{rules}
-use Rattle.text.proofs.Writing.{Listed, listed_none, listed_more, listed_all}
+use Rattle.text.proofs.Writing.{Listed}
 use Rattle.text.proofs.write.write_fields.Given as goal
 
 -- The loop's invariant: `j` of the `k` numbers are written, `i` is the place after them, and there is room for the rest

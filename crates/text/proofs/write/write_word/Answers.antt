@@ -1,7 +1,4 @@
-use Prim.Native.Nat.{◌-◌}
-use lib.ListN.{length}
-use borrow.Author.Rules.{rules}
-use Rattle.text.proofs.Writing.{Spelt, spelt_none, spelt_more, spelt_all}
+use Rattle.text.proofs.Writing.{spelt_none, spelt_more, spelt_all}
 use Rattle.text.proofs.write.write_word.Goals as goal
 
 pub loop-j-init : goal.loop-j-init

@@ -1,8 +1,6 @@
--- The loop's invariant: the first `j` bytes of the word are written, and `i` is the place after them (`Spelt`, of
 use Prim.Native.Nat.{◌-◌}
 use lib.ListN.{length}
-use borrow.Author.Rules.{rules}
-use Rattle.text.proofs.Writing.{Spelt, spelt_none, spelt_more, spelt_all}
+use Rattle.text.proofs.Writing.{Spelt}
 use Rattle.text.proofs.write.write_word.Given as goal
 
 -- The loop's invariant: the first `j` bytes of the word are written, and `i` is the place after them (`Spelt`, of
