@@ -5,7 +5,7 @@ use crate::words::*;
 use rules::Registers;
 
 // What a row asks for, and what is passed beside the lists.
-#[derive(Drop)]
+#[derive(Clone, Copy)]
 pub struct Asked {
     pub call: u32,
     pub a: u32,

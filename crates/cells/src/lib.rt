@@ -26,7 +26,7 @@ pub extern "C" fn cells_execute(
     y: u32,
     z: u32,
 ) -> Reply
-    ensures { came result (tables m first.now last.now offset.now marks.new rights.new grants.new memory.new)
+    ensures { came result (tables m first.exit.now last.exit.now offset.exit.now marks.new rights.new grants.new memory.new)
         ≡ performed (state (tables m first.now last.now offset.now marks.old rights.old grants.old memory.old) registers) (instruction number x y z) }
 {
     monitor::execute(
@@ -50,7 +50,7 @@ pub extern "C" fn cells_execute_all(
     numbers: &mut [u32],
     values: &mut [u32],
 ) -> Registers
-    ensures { ran (state (tables m first.now last.now offset.now marks.new rights.new grants.new memory.new) result) numbers.new values.new
+    ensures { ran (state (tables m first.exit.now last.exit.now offset.exit.now marks.new rights.new grants.new memory.new) result) numbers.new values.new
         ≡ run_all (state (tables m first.now last.now offset.now marks.old rights.old grants.old memory.old) registers) instructions.now numbers.old values.old }
 {
     monitor::execute_all(
@@ -84,7 +84,7 @@ pub extern "C" fn cells_write_block(
     x: u32,
     bytes: &[u8],
 ) -> Reply
-    ensures { came result (tables m first.now last.now offset.now marks.now rights.now grants.now memory.new)
+    ensures { came result (tables m first.exit.now last.exit.now offset.exit.now marks.exit.now rights.exit.now grants.exit.now memory.new)
         ≡ performed (state (tables m first.now last.now offset.now marks.now rights.now grants.now memory.old) registers) (block_write x bytes.now) }
 {
     monitor::write_block(

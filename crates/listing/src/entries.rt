@@ -7,14 +7,14 @@ ghost use Rattle.listing.specs.Reading.{line_of, size_of, SmallKind, FilledAs};
 use crate::lines::{Passed, byte_row, right_row};
 
 // The kinds whose values are bytes: of so many cells and divisions, or in a memory of so many bytes.
-#[derive(Drop)]
+#[derive(Clone, Copy)]
 pub enum Kind {
     Right(u32, u32),
     Byte(u32),
 }
 
 // What a line names. It is all 0 where no line of the kind stands.
-#[derive(Drop)]
+#[derive(Clone, Copy)]
 pub struct Entry {
     pub ok: bool,
     pub next: usize,

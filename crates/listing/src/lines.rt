@@ -5,7 +5,7 @@ ghost use Rattle.listing.specs.Lines.{head_row, size_row, cell_row, right_row, g
 use text::{Row, row_at, within};
 
 // How many lines of a kind there are, and the place after them.
-#[derive(Drop)]
+#[derive(Clone, Copy)]
 pub struct Passed {
     pub count: usize,
     pub next: usize,

@@ -6,7 +6,7 @@ use Prim.Native.Nat.{ℕ}
 use mathlib.Core.Path.{◌≡◌, ap}
 use mathlib.Core.List.{List}
 use Rattle.rules.specs.Numbers.{Tables}
-use Rattle.rules.specs.Lent.{Slice, refers, Passed, lent_of, rest_of}
+use Rattle.rules.specs.Lent.{Slice, MutSlice, refers, Passed, lent_of, rest_of}
 use Rattle.rules.specs.declared.Registers.{Registers}
 use Rattle.rules.proofs.Laws.{one_outcome}
 use Rattle.monitor.specs.Answers.{came}
@@ -18,12 +18,16 @@ use Rattle.monitor.proofs.view_answer.Reads as view-answer-reads
 use Rattle.monitor.proofs.view_place.Reads as view-place-reads
 use Rattle.monitor.proofs.view.Reads as view-reads
 
--- the lists at exit, with the M that was passed
-abbrev pub lists : {Rest End : Type 0} → Passed Rest → Passed End → Tables
-lists a s = lent_of (a.0, s.1)
+-- the lists at exit, with the M that was passed, of a call that may write the marks, the rights, the grants and the memory
+abbrev pub lists : {Rest End : Type 0} → Passed MutSlice MutSlice Rest → Passed MutSlice MutSlice End → Tables
+lists a s = lent_of (λ l. l.now) (λ l. l.now) (a.0, s.1)
+
+-- the same of `write_block`, which may write the memory alone
+abbrev pub block_lists : {Rest End : Type 0} → Passed Slice MutSlice Rest → Passed Slice MutSlice End → Tables
+block_lists a s = lent_of (λ l. l.now) (λ l. l.now) (a.0, s.1)
 
 -- of `execute_all`, whose rest is the registers, the instructions and the lists of answers: both of these at exit
-abbrev pub answers : Passed (Registers × (Slice × (Slice × (Slice × Unit {0})))) → List ℕ × List ℕ
+abbrev pub answers : Passed MutSlice MutSlice (Registers × (Slice × (MutSlice × (MutSlice × Unit {0})))) → List ℕ × List ℕ
 answers s = ((rest_of s).1.1.0.now, (rest_of s).1.1.1.0.now)
 
 -- ---- one outcome
@@ -45,7 +49,7 @@ pub execute_unique : (κs : _) (a : _) (r q : _) (s u : _) → execute-reads.Pos
 execute_unique κs a r q s u e f = (same_reply (one_outcome e f), ap (λ o. o.after.lent) (one_outcome e f))
 
 pub write_block_unique : (κs : _) (a : _) (r q : _) (s u : _) → write-block-reads.Post κs a r s → write-block-reads.Post κs a q u
-    → (r ≡ q) × (lists a s ≡ lists a u)
+    → (r ≡ q) × (block_lists a s ≡ block_lists a u)
 write_block_unique κs a r q s u e f = (same_reply (one_outcome e f), ap (λ o. o.after.lent) (one_outcome e f))
 
 -- the registers, every lent list, and both lists of answers

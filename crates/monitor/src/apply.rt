@@ -82,7 +82,7 @@ pub fn apply(
 ) -> Reply
     requires ready { Ready (state (tables m first.now last.now offset.now marks.old rights.old grants.old memory.old) registers) i c }
     requires all_hold { AllHold (needs (tables m first.now last.now offset.now marks.old rights.old grants.old memory.old) registers.current c i) }
-    ensures { came result (tables m first.now last.now offset.now marks.new rights.new grants.new memory.new)
+    ensures { came result (tables m first.exit.now last.exit.now offset.exit.now marks.new rights.new grants.new memory.new)
         ≡ done_at (state (tables m first.now last.now offset.now marks.old rights.old grants.old memory.old) registers) c i }
 {
     let d = registers.current as usize;

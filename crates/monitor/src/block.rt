@@ -11,7 +11,7 @@ use crate::look::{held_at, place_of};
 use rules::{Answer, Registers};
 
 // Where a block begins in memory, or the refusal of the first check to fail.
-#[derive(Drop)]
+#[derive(Clone, Copy)]
 pub enum Located {
     At(usize),
     Refused(Answer),

@@ -80,7 +80,7 @@ pub fn execute_all(
     numbers: &mut [u32],
     values: &mut [u32],
 ) -> Registers
-    ensures { ran (state (tables m first.now last.now offset.now marks.new rights.new grants.new memory.new) result) numbers.new values.new
+    ensures { ran (state (tables m first.exit.now last.exit.now offset.exit.now marks.new rights.new grants.new memory.new) result) numbers.new values.new
         ≡ run_all (state (tables m first.now last.now offset.now marks.old rights.old grants.old memory.old) registers) instructions.now numbers.old values.old }
 {
     let count = room_for(instructions.len(), numbers.len(), values.len());
@@ -127,7 +127,7 @@ pub fn execute(
     y: u32,
     z: u32,
 ) -> Reply
-    ensures { came result (tables m first.now last.now offset.now marks.new rights.new grants.new memory.new)
+    ensures { came result (tables m first.exit.now last.exit.now offset.exit.now marks.new rights.new grants.new memory.new)
         ≡ performed (state (tables m first.now last.now offset.now marks.old rights.old grants.old memory.old) registers) (instruction number x y z) }
 {
     let instruction = [number, x, y, z];
@@ -200,7 +200,7 @@ pub fn write_block(
     x: u32,
     bytes: &[u8],
 ) -> Reply
-    ensures { came result (tables m first.now last.now offset.now marks.now rights.now grants.now memory.new)
+    ensures { came result (tables m first.exit.now last.exit.now offset.exit.now marks.exit.now rights.exit.now grants.exit.now memory.new)
         ≡ performed (state (tables m first.now last.now offset.now marks.now rights.now grants.now memory.old) registers) (block_write x bytes.now) }
 {
     let located = place_block(

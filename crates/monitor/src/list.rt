@@ -51,7 +51,7 @@ pub fn run_list(
 ) -> Registers
     requires begun { Begun (state (tables m first.now last.now offset.now marks.old rights.old grants.old memory.old) registers) }
     requires room { (4 * count ≤ length instructions.now) × ((count ≤ length numbers.old) × (count ≤ length values.old)) }
-    ensures { ran (state (tables m first.now last.now offset.now marks.new rights.new grants.new memory.new) result) numbers.new values.new
+    ensures { ran (state (tables m first.exit.now last.exit.now offset.exit.now marks.new rights.new grants.new memory.new) result) numbers.new values.new
         ≡ run_first (state (tables m first.now last.now offset.now marks.old rights.old grants.old memory.old) registers) instructions.now count numbers.old values.old }
 {
     let mut core = registers;

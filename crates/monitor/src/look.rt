@@ -7,7 +7,7 @@ ghost use Rattle.monitor.specs.Leaves.{other_in};
 const ENTRY_WORD: u32 = 11;
 
 // Another division that holds a right, or nobody.
-#[derive(Drop)]
+#[derive(Clone, Copy)]
 pub enum Holder {
     Division(usize),
     Nobody,

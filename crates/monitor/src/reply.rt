@@ -5,7 +5,7 @@ use rules::Registers;
 
 // What a call answers: a number of the refusal list, 0 for acceptance, the value that goes with it, and the registers.
 #[repr(C)]
-#[derive(Drop)]
+#[derive(Clone, Copy)]
 pub struct Reply {
     pub number: u32,
     pub value: u32,
@@ -14,7 +14,7 @@ pub struct Reply {
 
 // A read view's number and value, where its part begins in the memory, and how many bytes it has; both 0 on a refusal.
 #[repr(C)]
-#[derive(Drop)]
+#[derive(Clone, Copy)]
 pub struct ViewPlace {
     pub number: u32,
     pub value: u32,

@@ -16,7 +16,7 @@ use crate::reply::{Reply, refuse};
 use rules::{Decoded, Instruction, Registers};
 
 // A reply beside the listing position of its instruction.
-#[derive(Drop)]
+#[derive(Clone, Copy)]
 pub struct Answered {
     pub position: usize,
     pub reply: Reply,
@@ -56,7 +56,7 @@ pub fn step(
 ) -> Reply
     requires begun { Begun (state (tables m first.now last.now offset.now marks.old rights.old grants.old memory.old) registers) }
     requires in_range { InRange m registers.current i }
-    ensures { came result (tables m first.now last.now offset.now marks.new rights.new grants.new memory.new)
+    ensures { came result (tables m first.exit.now last.exit.now offset.exit.now marks.new rights.new grants.new memory.new)
         ≡ kind_performed (state (tables m first.now last.now offset.now marks.old rights.old grants.old memory.old) registers) i }
 {
     let f = find(first, last, address_of(i));
@@ -96,7 +96,7 @@ pub fn perform(
     z: u32,
 ) -> Answered
     requires { Begun (state (tables m first.now last.now offset.now marks.old rights.old grants.old memory.old) registers) }
-    ensures { listed result.position (came result.reply (tables m first.now last.now offset.now marks.new rights.new grants.new memory.new))
+    ensures { listed result.position (came result.reply (tables m first.exit.now last.exit.now offset.exit.now marks.new rights.new grants.new memory.new))
         ≡ listed position (performed (state (tables m first.now last.now offset.now marks.old rights.old grants.old memory.old) registers) (instruction number x y z)) }
 {
     let decoded = rules::decode(m as u32, registers.current, position, number, x, y, z);

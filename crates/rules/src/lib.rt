@@ -37,7 +37,7 @@ pub const SAME_RIGHTS: u32 = 13;
 
 // One core's registers. They go into a call and come back as one value.
 #[repr(C)]
-#[derive(Drop)]
+#[derive(Clone, Copy)]
 pub struct Registers {
     pub current: u32,
     pub caller: u32,
@@ -61,7 +61,7 @@ impl Registers {
 
 // A number of the refusal list, 0 for acceptance, and the value that goes with it.
 #[repr(C)]
-#[derive(Drop)]
+#[derive(Clone, Copy)]
 pub struct Answer {
     pub number: u32,
     pub value: u32,
@@ -109,7 +109,7 @@ type Rights = u8;
 type Byte = u8;
 
 // A well-formed instruction: one of the eleven kinds, with its operands.
-#[derive(Drop)]
+#[derive(Clone, Copy)]
 pub enum Instruction {
     Load(Address),
     Store(Address, Byte),
@@ -125,14 +125,14 @@ pub enum Instruction {
 }
 
 // An instruction kept beside its listing position.
-#[derive(Drop)]
+#[derive(Clone, Copy)]
 pub struct Placed {
     pub position: usize,
     pub instruction: Instruction,
 }
 
 // What four numbers stand for: a kind, or refusal 4 or 5.
-#[derive(Drop)]
+#[derive(Clone, Copy)]
 pub enum Decoded {
     Kind(Placed),
     Refused(u32),

@@ -1,0 +1,41 @@
+use native.Mathlib.Omega.{arith}
+use borrow.Author.Rules.{rules}
+use Rattle.rules.specs.Numbers.{tables, State, state, read}
+use Rattle.rules.specs.Lent.{part_of_lent}
+use Rattle.monitor.proofs.Locating.{BlockAt, block_at, view_refuse, read_view_done, viewed_refused, viewed_at}
+use Rattle.monitor.proofs.view.Goals as goal
+use Rattle.monitor.proofs.view.Goals.{In-At, Start}
+
+abbrev st : Start → State
+st c = state (tables c.args.m c.args.first.now c.args.last.now c.args.offset.now c.args.marks.now c.args.rights.now c.args.grants.now c.args.memory.now) c.args.registers
+
+-- where a place was told
+block : (c : In-At)
+    → BlockAt read ((state (tables c.args.m c.args.first.now c.args.last.now c.args.offset.now c.args.marks.now c.args.rights.now c.args.grants.now c.args.memory.now) c.args.registers)) c.args.x c.args.n c.in-At.place
+block c =
+    let a = c.args in
+    block_at read ((state (tables c.args.m c.args.first.now c.args.last.now c.args.offset.now c.args.marks.now c.args.rights.now c.args.grants.now c.args.memory.now) c.args.registers)) a.x a.n _ c.place_block-located.ensures _ c.in-At.is
+
+pub overflow_add-end : goal.overflow_add-end
+overflow_add-end c =
+    let located = c in
+    omega (arith, (block located).inside, (block located).few)
+
+pub slice_bounds-result-end-in-At : goal.slice_bounds-result-end-in-At
+slice_bounds-result-end-in-At c =
+    let located = c in
+    (block located).inside
+
+pub returns-in-Refused : goal.returns-in-Refused
+returns-in-Refused c =
+    let s = (goal.at.returns-in-Refused c).Start in
+    let a = c.args in
+    let e = viewed_refused (st s) a.x a.n _ _ c.place_block-located.ensures c.in-Refused.is in
+    let f = view_refuse (st s) a.x a.n _ _ c.place_block-located.ensures c.in-Refused.is in
+    λ i. part_of_lent a.memory (e i).start (f i).part
+
+pub returns-in-At : goal.returns-in-At
+returns-in-At c =
+    let located = (goal.at.returns-in-At c).In-At in
+    let a = c.args in
+    λ i. part_of_lent a.memory (viewed_at (block located) i).start (read_view_done (block located) i).part
