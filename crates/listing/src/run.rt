@@ -4,7 +4,7 @@ ghost use Rattle.std.specs.Prelude.{◌≡◌, ◌+◌, ◌*◌, ◌≤◌, leng
 ghost use Rattle.text.specs.Text.{Puts, Ends};
 ghost use Rattle.rules.specs.Numbers.{tables, state};
 ghost use Rattle.listing.specs.Lines.{core_row};
-ghost use Rattle.listing.specs.Listing.{run as theRun, from_core, from_rights, cells_at, zeros};
+ghost use Rattle.listing.specs.Listing.{run as the_run, from_core, from_rights, cells_at, zeros};
 ghost use Rattle.listing.specs.Output.{body_of};
 ghost use Rattle.listing.specs.Reading.{Roomy, output_room, written_in};
 
@@ -72,7 +72,7 @@ fn run_instructions(
     requires answers { (length numbers.old ≡ 5957) × (length values.old ≡ 5957) }
     requires sizes { (1 ≤ m) × (m ≤ 32) × (length rights.old ≤ 8192) × (length grants.old ≤ 8192)
         × (length instructions.now ≡ 4 * count) × (count ≤ 5957) × Roomy at out.old }
-    ensures puts { Puts out at (body_of (theRun (state (tables m first.now last.now offset.now marks.old rights.old grants.old memory.old) registers) count
+    ensures puts { Puts out at (body_of (the_run (state (tables m first.now last.now offset.now marks.old rights.old grants.old memory.old) registers) count
         instructions.now)) result }
     ensures ends { result ≤ output_room }
 {

@@ -10,7 +10,7 @@ const LINE_FEED: u16 = 10;
 
 // Whether the line is right, the place after it, and its numbers, 0 past the last. Five are enough for every kind of
 // line, so that one reader serves all kinds.
-#[derive(Drop)]
+#[derive(Clone, Copy)]
 pub struct Row {
     pub ok: bool,
     pub next: usize,

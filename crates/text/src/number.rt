@@ -3,7 +3,7 @@ ghost use Rattle.std.specs.Prelude.{◌≡◌, ◌+◌, ◌-◌, ◌*◌, ◌≤
 ghost use Rattle.text.specs.Number.{peek_at, digits_in, value_from, number_at};
 
 // What stands at a place: a number, with the place after it, or none.
-#[derive(Drop)]
+#[derive(Clone, Copy)]
 pub enum Field {
     Number(u32, usize),
     Bad,
@@ -11,7 +11,7 @@ pub enum Field {
 
 // A run of digits: its value, and the place after it. The value is kept at 4,294,967,296 where it is more, so that it
 // does not wrap however long the run is.
-#[derive(Drop)]
+#[derive(Clone, Copy)]
 struct Run {
     value: u64,
     next: usize,

@@ -1,0 +1,13 @@
+use native.Mathlib.Omega.{arith}
+use borrow.Author.Tests.{not-true, not-false}
+use Prim.Native.Nat.{◌+◌, ◌-◌, ◌*◌, ◌<◌}
+use lib.ListN.{length, length-set}
+use Rattle.listing.proofs.Loops.{DosRead, dos_none, do_room, dos_more, dos_stop, dos_full}
+use borrow.Author.Rules.{rules}
+use Rattle.listing.proofs.dos.dos_at.Given as goal
+
+abbrev pub invariant-loop-n : goal.invariant-loop-n
+invariant-loop-n l = DosRead l.s l.at l.n l.i l.list
+
+abbrev pub decreases-loop-n : goal.decreases-loop-n
+decreases-loop-n l = length l.s - l.n

@@ -1,0 +1,8 @@
+use Rattle.listing.specs.Lines.{grant_row}
+use borrow.Author.Rules.{rules}
+use Rattle.listing.proofs.lines.grant_row.Goals as goal
+
+pub returns : goal.returns
+unfolding grant_row
+returns c =
+    rw (c.within-3.ensures, c.within-2.ensures, c.within-r.ensures, c.within.ensures, c.row_at.ensures)
