@@ -9,7 +9,7 @@ use native.Mathlib.Omega.{arith}
 use lib.ListN.{get_or}
 use Rattle.rules.specs.Below.{every, count, lowest_from, lowest}
 use Rattle.rules.specs.Numbers.{Tables, tables, State, state, in_bounds, right_lengths, part_of, larger, join}
-use Rattle.rules.specs.Lent.{Slice, Passed, lent_of, rest_of}
+use Rattle.rules.specs.Lent.{Slice, MutSlice, Passed, lent_all, rest_of}
 use Rattle.rules.specs.Sound.{sound_grant, holders, after_cell_before, sound_cell, sound_tables, lowest_unsound}
 use Rattle.rules.specs.Refusals.{Outcome, first_failing, answered, well_sized, known_divisions}
 use Rattle.rules.specs.Instructions.{no_operands, byte_operand, division_operand, rights_operand, grant_operands, source_operand, formed, covers, covering_cell, covered, valid, place, word_in, whole_word, grant_names, other_holder, nobody_else, needs, effect, registers_after, value_of}
@@ -27,19 +27,22 @@ use Rattle.calls.proofs.Mixtures.{state_of, instruction_of}
 
 -- ---- document 01's listing, lent at some place
 
-abbrev lend : List ℕ → Slice
-lend l = record { ref_ptr = (0, 0); now = l }
+abbrev show : List ℕ → Slice
+show l = record { ref_ptr = (0, 0); now = l }
+
+abbrev lend : List ℕ → MutSlice
+lend l = record { ref_ptr = (0, 0); ghost_name = 0; now = l }
 
 -- with the registers at 0, and the rest of what a call takes
-abbrev lending : {Rest : Type 0} → Rest → Passed (Registers × Rest)
+abbrev lending : {Rest : Type 0} → Rest → Passed MutSlice MutSlice (Registers × Rest)
 lending rest = (
   listed.M,
   (
-    lend listed.first,
+    show listed.first,
     (
-      lend listed.last,
+      show listed.last,
       (
-        lend listed.offset,
+        show listed.offset,
         (
           lend listed.marks,
           (
@@ -55,7 +58,7 @@ lending rest = (
 -- ---- one instruction
 
 abbrev One : Type 0
-One = Passed (Registers × (ℕ × (ℕ × (ℕ × (ℕ × Unit {0})))))
+One = Passed MutSlice MutSlice (Registers × (ℕ × (ℕ × (ℕ × (ℕ × Unit {0})))))
 
 abbrev one : (number x y z : ℕ) → One
 one number x y z = lending (number, (x, (y, (z, tt))))
@@ -73,10 +76,10 @@ exit_of a =
     let t = (answer a).after.lent in (
       a.0,
       (
-        lend t.first,
+        show t.first,
         (
-          lend t.last,
-          (lend t.offset, (lend t.marks, (lend t.rights, (lend t.grants, (lend t.memory, rest_of a))))),
+          show t.last,
+          (show t.offset, (lend t.marks, (lend t.rights, (lend t.grants, (lend t.memory, rest_of a))))),
         ),
       ),
     )
@@ -97,15 +100,15 @@ contract_met κs a =
 -- ---- a list of instructions
 
 abbrev Many : Type 0
-Many = Passed (Registers × (Slice × (Slice × (Slice × Unit {0}))))
+Many = Passed MutSlice MutSlice (Registers × (Slice × (MutSlice × (MutSlice × Unit {0}))))
 
 -- store 65 at 4096, and load it: two answers
 abbrev two : Many
-two = lending (lend (1 ∷ 4096 ∷ 65 ∷ 0 ∷ 0 ∷ 4096 ∷ 0 ∷ 0 ∷ []), (lend (0 ∷ 0 ∷ []), (lend (0 ∷ 0 ∷ []), tt)))
+two = lending (show (1 ∷ 4096 ∷ 65 ∷ 0 ∷ 0 ∷ 4096 ∷ 0 ∷ 0 ∷ []), (lend (0 ∷ 0 ∷ []), (lend (0 ∷ 0 ∷ []), tt)))
 
 -- protect 4096 to read, and then to nothing
 abbrev twice : Many
-twice = lending (lend (4 ∷ 4096 ∷ 1 ∷ 0 ∷ 4 ∷ 4096 ∷ 0 ∷ 0 ∷ []), (lend (0 ∷ 0 ∷ []), (lend (0 ∷ 0 ∷ []), tt)))
+twice = lending (show (4 ∷ 4096 ∷ 1 ∷ 0 ∷ 4 ∷ 4096 ∷ 0 ∷ 0 ∷ []), (lend (0 ∷ 0 ∷ []), (lend (0 ∷ 0 ∷ []), tt)))
 
 -- how many instructions there are with room for both answers
 abbrev room : Many → ℕ
@@ -164,7 +167,7 @@ module _ (κs : _) (f : One → Reply) (g : One → One) (met : (a : One) → ex
       omega arith
 
   -- it touches its tables
-  pub tables_change : ((a : One) → lists a (g a) ≡ lent_of a) → ⊥
+  pub tables_change : ((a : One) → lists a (g a) ≡ lent_all a) → ⊥
   tables_change never =
       let a = one 4 4096 1 0 in
       let kept : ◌≡◌ {A = ℕ} 1 3 = ap (λ (l : List ℕ). get_or l 0 0)

@@ -12,7 +12,7 @@ use lib.ListN.{length, get_or, take}
 use Rattle.text.specs.Line.{row_at}
 use Rattle.text.specs.declared.line.Row.{Row}
 use Rattle.rules.specs.Numbers.{Tables, State}
-use Rattle.rules.specs.Lent.{Slice}
+use Rattle.rules.specs.Lent.{Slice, MutSlice}
 use Rattle.rules.specs.Refusals.{Outcome}
 use Rattle.rules.specs.Instructions.{no_operands, formed, cell_at, place, with_rights, value_of}
 use Rattle.rules.specs.Calls.{Action, instruction, done_at, done, performed}
@@ -59,7 +59,7 @@ load_value s a x e n =
 
 -- ---- a call of `cellrun` that met its contract, with a buffer that has room, on a text that is a run of k instructions
 
-module _ (κs : _) (text out out' : Slice) (r : ℕ) (met : cellrun-reads.Post κs (text, (out, tt)) r (text, (out', tt)))
+module _ (κs : _) (text : Slice) (out out' : MutSlice) (r : ℕ) (met : cellrun-reads.Post κs (text, (out, tt)) r (text, (out', tt)))
     (room : output_room ≤ length out.now) (start : State) (k : ℕ) (l : List ℕ) (e : listing_in text.now ≡ run start k l) where
   -- what it wrote: the front of the buffer, as long as it answered
   abbrev pub written : List ℕ

@@ -7,7 +7,7 @@ use mathlib.Core.Logic.{◌≢◌}
 use mathlib.Core.Bool.{true}
 use lib.ListN.{length, get_or}
 use Rattle.rules.specs.Numbers.{State, state}
-use Rattle.rules.specs.Lent.{Slice, Passed, lent_of, rest_of}
+use Rattle.rules.specs.Lent.{Slice, MutSlice, Passed, lent_all, lent_block, lent_view, rest_of}
 use Rattle.rules.specs.Refusals.{Outcome}
 use Rattle.rules.specs.Calls.{Action, instruction, block_write, read_view, performed, outcomes, after_all}
 use Rattle.rules.specs.declared.Registers.{Registers}
@@ -15,7 +15,7 @@ use Rattle.rules.specs.declared.Answer.{Answer}
 use Rattle.monitor.specs.Runs.{instruction_at, room_in, after_first, Ran}
 use Rattle.monitor.specs.declared.reply.Reply.{Reply}
 use Rattle.monitor.specs.declared.reply.ViewPlace.{ViewPlace}
-use Rattle.monitor.proofs.Unique.{lists}
+use Rattle.monitor.proofs.Unique.{lists, block_lists}
 use Rattle.monitor.proofs.execute.Reads as execute-reads
 use Rattle.monitor.proofs.execute_all.Reads as execute-all-reads
 use Rattle.monitor.proofs.write_block.Reads as write-block-reads
@@ -29,20 +29,27 @@ use Rattle.history.proofs.Sequences.{Called, called_run, called_history, called_
 
 -- ---- what a call is lent, and what it stands for
 
--- the state; the registers come first of what is passed beside M and the lists
-abbrev pub state_of : {Rest : Type 0} → Passed (Registers × Rest) → State
-state_of a = state (lent_of a) (rest_of a).0
+-- the state of a call that may write all four lists, of one that may write the memory alone, and of one that may write none;
+-- the registers come first of what is passed beside M and the lists
+abbrev pub state_of : {Rest : Type 0} → Passed MutSlice MutSlice (Registers × Rest) → State
+state_of a = state (lent_all a) (rest_of a).0
+
+abbrev pub block_state_of : {Rest : Type 0} → Passed Slice MutSlice (Registers × Rest) → State
+block_state_of a = state (lent_block a) (rest_of a).0
+
+abbrev pub view_state_of : {Rest : Type 0} → Passed Slice Slice (Registers × Rest) → State
+view_state_of a = state (lent_view a) (rest_of a).0
 
 -- four numbers
-abbrev pub instruction_of : Passed (Registers × (ℕ × (ℕ × (ℕ × (ℕ × Unit {0}))))) → Action
+abbrev pub instruction_of : Passed MutSlice MutSlice (Registers × (ℕ × (ℕ × (ℕ × (ℕ × Unit {0}))))) → Action
 instruction_of a = instruction (rest_of a).1.0 (rest_of a).1.1.0 (rest_of a).1.1.1.0 (rest_of a).1.1.1.1.0
 
 -- an address and a block of bytes
-abbrev pub block_of : Passed (Registers × (ℕ × (Slice × Unit {0}))) → Action
+abbrev pub block_of : Passed Slice MutSlice (Registers × (ℕ × (Slice × Unit {0}))) → Action
 block_of a = block_write (rest_of a).1.0 (rest_of a).1.1.0.now
 
 -- an address and a length
-abbrev pub view_of : Passed (Registers × (ℕ × (ℕ × Unit {0}))) → Action
+abbrev pub view_of : Passed Slice Slice (Registers × (ℕ × (ℕ × Unit {0}))) → Action
 view_of a = read_view (rest_of a).1.0 (rest_of a).1.1.0
 
 -- the first k instructions of a list of numbers
@@ -51,7 +58,7 @@ first_of l zero = []
 first_of l (suc k) = first_of l k ++ (instruction_at l k ∷ [])
 
 -- a list of instructions and two lists of answers: as many as are whole and have room for both
-abbrev pub list_of : Passed (Registers × (Slice × (Slice × (Slice × Unit {0})))) → List Action
+abbrev pub list_of : Passed MutSlice MutSlice (Registers × (Slice × (MutSlice × (MutSlice × Unit {0})))) → List Action
 list_of a =
     let l = (rest_of a).1.0.now in
     first_of l (room_in l (rest_of a).1.1.0.now (rest_of a).1.1.1.0.now)
@@ -66,10 +73,10 @@ pub data Call : State → List Action → State → Type 0 where
   execute_all_call : (κs : _) (a : _) (r : Registers) (b : _) → execute-all-reads.Post κs a r b
       → Call (state_of a) (list_of a) (state (lists a b) r)
   write_block_call : (κs : _) (a : _) (r : Reply) (b : _) → write-block-reads.Post κs a r b
-      → Call (state_of a) (block_of a ∷ []) (state (lists a b) r.registers)
-  view_call : (κs : _) (a : _) (r : Slice) → view-reads.Post κs a r a → Call (state_of a) (view_of a ∷ []) (state_of a)
-  view_answer_call : (κs : _) (a : _) (r : Answer) → view-answer-reads.Post κs a r a → Call (state_of a) (view_of a ∷ []) (state_of a)
-  view_place_call : (κs : _) (a : _) (r : ViewPlace) → view-place-reads.Post κs a r a → Call (state_of a) (view_of a ∷ []) (state_of a)
+      → Call (block_state_of a) (block_of a ∷ []) (state (block_lists a b) r.registers)
+  view_call : (κs : _) (a : _) (r : Slice) → view-reads.Post κs a r a → Call (view_state_of a) (view_of a ∷ []) (view_state_of a)
+  view_answer_call : (κs : _) (a : _) (r : Answer) → view-answer-reads.Post κs a r a → Call (view_state_of a) (view_of a ∷ []) (view_state_of a)
+  view_place_call : (κs : _) (a : _) (r : ViewPlace) → view-place-reads.Post κs a r a → Call (view_state_of a) (view_of a ∷ []) (view_state_of a)
 
 -- the state after the first k instructions of a list
 pub list_end : (s : State) (l : List ℕ) (k : ℕ) → after_first s l k ≡ after_all s (first_of l k)
@@ -86,9 +93,9 @@ call_end (execute_all_call κs a r b e) =
     let l = (rest_of a).1.0.now in
     ap (λ (o : Ran). o.after) e ∙ list_end (state_of a) l (room_in l (rest_of a).1.1.0.now (rest_of a).1.1.1.0.now)
 call_end (write_block_call κs a r b e) = ap (λ (o : Outcome). o.after) e
-call_end (view_call κs a r e) = sym (view_kept (state_of a) (rest_of a).1.0 (rest_of a).1.1.0)
-call_end (view_answer_call κs a r e) = sym (view_kept (state_of a) (rest_of a).1.0 (rest_of a).1.1.0)
-call_end (view_place_call κs a r e) = sym (view_kept (state_of a) (rest_of a).1.0 (rest_of a).1.1.0)
+call_end (view_call κs a r e) = sym (view_kept (view_state_of a) (rest_of a).1.0 (rest_of a).1.1.0)
+call_end (view_answer_call κs a r e) = sym (view_kept (view_state_of a) (rest_of a).1.0 (rest_of a).1.1.0)
+call_end (view_place_call κs a r e) = sym (view_kept (view_state_of a) (rest_of a).1.0 (rest_of a).1.1.0)
 
 -- so it is a run of the definition, and demand 3 holds of it by itself: of the rights held where it returns, and of the bytes
 -- that differ from those that it was lent

@@ -6,7 +6,7 @@ use Prim.Native.Nat.{ℕ}
 use mathlib.Core.Path.{◌≡◌, ap}
 use mathlib.Core.List.{List}
 use Rattle.rules.specs.Numbers.{Tables}
-use Rattle.rules.specs.Lent.{Slice, MutSlice, refers, Passed, lent_of, rest_of}
+use Rattle.rules.specs.Lent.{Slice, MutSlice, refers, Passed, lent_all, lent_block, rest_of}
 use Rattle.rules.specs.declared.Registers.{Registers}
 use Rattle.rules.proofs.Laws.{one_outcome}
 use Rattle.monitor.specs.Answers.{came}
@@ -20,11 +20,11 @@ use Rattle.monitor.proofs.view.Reads as view-reads
 
 -- the lists at exit, with the M that was passed, of a call that may write the marks, the rights, the grants and the memory
 abbrev pub lists : {Rest End : Type 0} → Passed MutSlice MutSlice Rest → Passed MutSlice MutSlice End → Tables
-lists a s = lent_of (λ l. l.now) (λ l. l.now) (a.0, s.1)
+lists a s = lent_all (a.0, s.1)
 
 -- the same of `write_block`, which may write the memory alone
 abbrev pub block_lists : {Rest End : Type 0} → Passed Slice MutSlice Rest → Passed Slice MutSlice End → Tables
-block_lists a s = lent_of (λ l. l.now) (λ l. l.now) (a.0, s.1)
+block_lists a s = lent_block (a.0, s.1)
 
 -- of `execute_all`, whose rest is the registers, the instructions and the lists of answers: both of these at exit
 abbrev pub answers : Passed MutSlice MutSlice (Registers × (Slice × (MutSlice × (MutSlice × Unit {0})))) → List ℕ × List ℕ

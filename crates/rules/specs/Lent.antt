@@ -41,5 +41,15 @@ lent_of entries memory d =
     tables d.0 d.1.0.now d.1.1.0.now d.1.1.1.0.now (entries d.1.1.1.1.0) (entries d.1.1.1.1.1.0)
     (entries d.1.1.1.1.1.1.0) (memory d.1.1.1.1.1.1.1.0)
 
+-- of a call that may write all four, of one that may write the memory alone, and of one that may write none
+abbrev pub lent_all : {Rest : Type 0} → Passed MutSlice MutSlice Rest → Tables
+lent_all d = lent_of (λ l. l.now) (λ l. l.now) d
+
+abbrev pub lent_block : {Rest : Type 0} → Passed Slice MutSlice Rest → Tables
+lent_block d = lent_of (λ l. l.now) (λ l. l.now) d
+
+abbrev pub lent_view : {Rest : Type 0} → Passed Slice Slice Rest → Tables
+lent_view d = lent_of (λ l. l.now) (λ l. l.now) d
+
 abbrev pub rest_of : {Entries Memory Rest : Type 0} → Passed Entries Memory Rest → Rest
 rest_of d = d.1.1.1.1.1.1.1.1
