@@ -17,7 +17,7 @@ use Rattle.rules.proofs.Checks.{AllHold}
 use Rattle.rules.proofs.Decoding.{InRange}
 use Rattle.rules.proofs.Needed.{protect_held, grant_held, transfer_held}
 use Rattle.rules.proofs.Sizes.{entry_below}
-use Rattle.rules.proofs.Kept.{Begun, begun, Covering}
+use Rattle.rules.proofs.Kept.{Begun, Covering}
 use Rattle.history.specs.History.{Right}
 use Rattle.history.specs.Shown.{has, holds_in, offers_in, deed_of, takes_by, makes_by, source_of}
 use Rattle.history.proofs.Bits.{has_part, has_join, has_none}

@@ -1,5 +1,5 @@
 -- The local laws of the rules: how one call gains a right, makes a grant, and keeps one. Assumes nothing.
-use Prim.Native.Nat.{ℕ, ◌+◌}
+use Prim.Native.Nat.{ℕ}
 use mathlib.Core.Path.{◌≡◌}
 use mathlib.Core.List.{◌++◌}
 use mathlib.Core.Bool.{true, false, ◌&&◌, false≢true}

@@ -1,5 +1,5 @@
 -- What a sequence of calls shows of rights and bytes: the run of document 01's rules.
-use Rattle.std.specs.Prelude.{ℕ, zero, suc, ◌+◌, ◌-◌, ◌/◌, ◌%◌, ◌≤◌, ◌<◌, ◌≡◌, List, Bool, true, false, ◌&&◌, length, get_or, ltb, eqb}
+use Rattle.std.specs.Prelude.{ℕ, zero, suc, ◌+◌, ◌/◌, ◌%◌, ◌≤◌, ◌<◌, ◌≡◌, List, Bool, true, false, ◌&&◌, length, get_or, ltb, eqb}
 use Rattle.rules.specs.Numbers.{Tables, State, N, held, grant_of, rights_in, first_of, last_of, offset_of, mark_of}
 use Rattle.rules.specs.Instructions.{Formed, well_formed, ill_formed, cell_at, place, grant_names, valid}
 use Rattle.rules.specs.Calls.{Action, instruction, block_write, read_view, formed_in, performed}

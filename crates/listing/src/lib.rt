@@ -1,4 +1,6 @@
 // The listing: a text of a logger's tables and of instructions, run, and what is written of it.
+#![tactic(auto)]
+
 mod cells;
 mod dos;
 mod entries;

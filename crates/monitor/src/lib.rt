@@ -1,5 +1,7 @@
 // The monitor's calls. Each tests everything that it is lent, and none has a `requires`. A refusal gives the number of
 // the first failing check and changes nothing.
+#![tactic(auto)]
+
 mod apply;
 mod block;
 mod find;

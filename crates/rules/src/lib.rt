@@ -1,5 +1,7 @@
 // The types of document 01's rules, and the parts of the rules that look at no table: rights, and the eleven
 // instruction numbers with their operand ranges. No public function has a `requires`.
+#![tactic(auto)]
+
 ghost use Rattle.std.specs.Prelude.{◌≡◌, ◌%◌};
 ghost use Rattle.rules.specs.Numbers.{part_of, larger, join, switched};
 ghost use Rattle.rules.specs.Instructions.{no_operands, byte_operand, division_operand, rights_operand, grant_operands, source_operand, ranged, beside, decoded};

@@ -1,6 +1,8 @@
 // The table check: bounds, lengths and soundness of everything that is lent, before any call looks further.
 // Its one public function has no `requires`. A row of entries is passed with no early exit and with its tests
 // joined by `&` and `|`, or counted, so that the loops vectorise; the way out is at a cell.
+#![tactic(auto)]
+
 ghost use Rattle.std.specs.Prelude.{◌≡◌, true, false, not, ◌&&◌, ◌||◌, ◌+◌, ◌*◌, ◌≤◌, ◌<◌, length, get_or, leb, ltb, eqb};
 ghost use Rattle.rules.specs.Below.{every, count, lowest};
 ghost use Rattle.rules.specs.Numbers.{tables, in_bounds};

@@ -1,15 +1,17 @@
 use mathlib.Core.Path.{sym, ◌∙◌}
 use mathlib.Core.Bool.{true, false}
-use borrow.Author.Rules.{rules}
-use Rattle.rules.specs.Numbers.{State, state}
-use Rattle.rules.specs.Numbers.{tables}
+use Rattle.rules.specs.Numbers.{State, state, tables}
 use Rattle.rules.specs.Refusals.{known_divisions}
 use Rattle.monitor.proofs.Beginning.{tables_refuse, divisions_decide}
 use Rattle.monitor.proofs.begin.Goals as goal
 use Rattle.monitor.proofs.begin.Goals.{Start}
 
 abbrev st : Start → State
-st c = state (tables c.args.m c.args.first.now c.args.last.now c.args.offset.now c.args.marks.now c.args.rights.now c.args.grants.now c.args.memory.now) c.args.registers
+st c =
+    state
+    (tables c.args.m c.args.first.now c.args.last.now c.args.offset.now c.args.marks.now c.args.rights.now
+    c.args.grants.now c.args.memory.now)
+    c.args.registers
 
 pub returns-then-known : goal.returns-then-known
 unfolding known_divisions

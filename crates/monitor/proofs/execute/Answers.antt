@@ -1,14 +1,15 @@
 -- A list of one: the return is one law of `Running`.
-use borrow.Author.Rules.{rules}
-use Rattle.rules.specs.Numbers.{State, state}
-use Rattle.rules.specs.Numbers.{tables}
+use Rattle.rules.specs.Numbers.{State, state, tables}
 use Rattle.monitor.proofs.Running.{ran_one}
 use Rattle.monitor.proofs.execute.Goals as goal
 use Rattle.monitor.proofs.execute.Goals.{Start}
 
--- A list of one: the return is one law of `Running`.
 abbrev st : Start → State
-st c = state (tables c.args.m c.args.first.now c.args.last.now c.args.offset.now c.args.marks.now c.args.rights.now c.args.grants.now c.args.memory.now) c.args.registers
+st c =
+    state
+    (tables c.args.m c.args.first.now c.args.last.now c.args.offset.now c.args.marks.now c.args.rights.now
+    c.args.grants.now c.args.memory.now)
+    c.args.registers
 
 pub returns : goal.returns
 returns c =

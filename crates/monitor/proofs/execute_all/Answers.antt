@@ -1,19 +1,20 @@
 -- Checks 1, 2 and 3 once, and then the list, or every answer filled with their refusal.
-use borrow.Author.Rules.{rules}
 use Prim.Native.Nat.{◌≤◌, ◌*◌}
 use native.Mathlib.Omega.{arith}
 use lib.ListN.{length}
-use Rattle.rules.specs.Numbers.{State, state}
-use Rattle.rules.specs.Numbers.{tables}
+use Rattle.rules.specs.Numbers.{State, state, tables}
 use Rattle.monitor.proofs.Beginning.{first_begun}
 use Rattle.monitor.proofs.Running.{room_whole, room_numbers, room_values, ran_as, refused_ran}
 use Rattle.monitor.proofs.execute_all.Goals as goal
 use Rattle.monitor.proofs.execute_all.Goals.{After-begin-begun, Start}
 
--- Checks 1, 2 and 3 once, and then the list, or every answer filled with their refusal.
 -- where the room is counted, and the function's entry, from where checks 1, 2 and 3 have answered
 abbrev st : Start → State
-st c = state (tables c.args.m c.args.first.now c.args.last.now c.args.offset.now c.args.marks.now c.args.rights.now c.args.grants.now c.args.memory.now) c.args.registers
+st c =
+    state
+    (tables c.args.m c.args.first.now c.args.last.now c.args.offset.now c.args.marks.now c.args.rights.now
+    c.args.grants.now c.args.memory.now)
+    c.args.registers
 
 -- the three lists lent beside the tables are long enough for the count
 record Room (c : After-begin-begun) : Type 0 where

@@ -1,5 +1,4 @@
 use native.Mathlib.Omega.{arith}
-use borrow.Author.Rules.{rules}
 use Rattle.rules.specs.Numbers.{tables, State, state, read}
 use Rattle.rules.specs.Lent.{part_of_lent}
 use Rattle.monitor.proofs.Locating.{BlockAt, block_at, view_refuse, read_view_done, viewed_refused, viewed_at}
@@ -7,14 +6,26 @@ use Rattle.monitor.proofs.view.Goals as goal
 use Rattle.monitor.proofs.view.Goals.{In-At, Start}
 
 abbrev st : Start → State
-st c = state (tables c.args.m c.args.first.now c.args.last.now c.args.offset.now c.args.marks.now c.args.rights.now c.args.grants.now c.args.memory.now) c.args.registers
+st c =
+    state
+    (tables c.args.m c.args.first.now c.args.last.now c.args.offset.now c.args.marks.now c.args.rights.now
+    c.args.grants.now c.args.memory.now)
+    c.args.registers
+
+-- the same at a later place
+abbrev st_at : In-At → State
+st_at c =
+    state
+    (tables c.args.m c.args.first.now c.args.last.now c.args.offset.now c.args.marks.now c.args.rights.now
+    c.args.grants.now c.args.memory.now)
+    c.args.registers
 
 -- where a place was told
 block : (c : In-At)
-    → BlockAt read ((state (tables c.args.m c.args.first.now c.args.last.now c.args.offset.now c.args.marks.now c.args.rights.now c.args.grants.now c.args.memory.now) c.args.registers)) c.args.x c.args.n c.in-At.place
+    → BlockAt read (st_at c) c.args.x c.args.n c.in-At.place
 block c =
     let a = c.args in
-    block_at read ((state (tables c.args.m c.args.first.now c.args.last.now c.args.offset.now c.args.marks.now c.args.rights.now c.args.grants.now c.args.memory.now) c.args.registers)) a.x a.n _ c.place_block-located.ensures _ c.in-At.is
+    block_at read (st_at c) a.x a.n _ c.place_block-located.ensures _ c.in-At.is
 
 pub overflow_add-end : goal.overflow_add-end
 overflow_add-end c =

@@ -1,14 +1,16 @@
 use mathlib.Core.Path.{ap}
-use borrow.Author.Rules.{rules}
-use Rattle.rules.specs.Numbers.{State, state, read}
-use Rattle.rules.specs.Numbers.{tables}
+use Rattle.rules.specs.Numbers.{State, state, read, tables}
 use Rattle.monitor.specs.Answers.{answer_in}
 use Rattle.monitor.proofs.Locating.{view_refuse, block_at, read_view_done}
 use Rattle.monitor.proofs.view_answer.Goals as goal
 use Rattle.monitor.proofs.view_answer.Goals.{Start}
 
 abbrev st : Start → State
-st c = state (tables c.args.m c.args.first.now c.args.last.now c.args.offset.now c.args.marks.now c.args.rights.now c.args.grants.now c.args.memory.now) c.args.registers
+st c =
+    state
+    (tables c.args.m c.args.first.now c.args.last.now c.args.offset.now c.args.marks.now c.args.rights.now
+    c.args.grants.now c.args.memory.now)
+    c.args.registers
 
 pub returns-in-Refused : goal.returns-in-Refused
 returns-in-Refused c =

@@ -1,12 +1,14 @@
-use borrow.Author.Rules.{rules}
-use Rattle.rules.specs.Numbers.{State, state, read}
-use Rattle.rules.specs.Numbers.{tables}
+use Rattle.rules.specs.Numbers.{State, state, read, tables}
 use Rattle.monitor.proofs.Locating.{block_at, viewed_refused, viewed_at}
 use Rattle.monitor.proofs.view_place.Goals as goal
 use Rattle.monitor.proofs.view_place.Goals.{Start}
 
 abbrev st : Start → State
-st c = state (tables c.args.m c.args.first.now c.args.last.now c.args.offset.now c.args.marks.now c.args.rights.now c.args.grants.now c.args.memory.now) c.args.registers
+st c =
+    state
+    (tables c.args.m c.args.first.now c.args.last.now c.args.offset.now c.args.marks.now c.args.rights.now
+    c.args.grants.now c.args.memory.now)
+    c.args.registers
 
 pub returns-in-Refused : goal.returns-in-Refused
 returns-in-Refused c =

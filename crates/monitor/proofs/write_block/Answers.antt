@@ -2,24 +2,34 @@ use Prim.Native.Nat.{ℕ}
 use mathlib.Core.List.{List}
 use native.Mathlib.Omega.{arith}
 use lib.ListN.{length}
-use borrow.Author.Rules.{rules}
-use Rattle.rules.specs.Numbers.{State, state, write}
-use Rattle.rules.specs.Numbers.{tables}
+use Rattle.rules.specs.Numbers.{State, state, write, tables}
 use Rattle.monitor.proofs.Locating.{BlockAt, write_refuse, block_at, block_write_done}
 use Rattle.monitor.proofs.write_block.Goals as goal
 use Rattle.monitor.proofs.write_block.Goals.{In-At, Start}
 
 abbrev st : Start → State
-st c = state (tables c.args.m c.args.first.now c.args.last.now c.args.offset.now c.args.marks.now c.args.rights.now c.args.grants.now c.args.memory.now) c.args.registers
+st c =
+    state
+    (tables c.args.m c.args.first.now c.args.last.now c.args.offset.now c.args.marks.now c.args.rights.now
+    c.args.grants.now c.args.memory.now)
+    c.args.registers
 
 abbrev bytes : Start → List ℕ
 bytes c = c.args.bytes.now
 
+-- the same at a later place
+abbrev st_at : In-At → State
+st_at c =
+    state
+    (tables c.args.m c.args.first.now c.args.last.now c.args.offset.now c.args.marks.now c.args.rights.now
+    c.args.grants.now c.args.memory.now)
+    c.args.registers
+
 -- where a place was told
 block : (c : In-At)
-    →    BlockAt write ((state (tables c.args.m c.args.first.now c.args.last.now c.args.offset.now c.args.marks.now c.args.rights.now c.args.grants.now c.args.memory.now) c.args.registers)) c.args.x (length ((c.args.bytes.now))) c.in-At.place
+    → BlockAt write (st_at c) c.args.x (length ((c.args.bytes.now))) c.in-At.place
 block c =
-    block_at write ((state (tables c.args.m c.args.first.now c.args.last.now c.args.offset.now c.args.marks.now c.args.rights.now c.args.grants.now c.args.memory.now) c.args.registers)) c.args.x (length ((c.args.bytes.now))) _ c.place_block-located.ensures _ c.in-At.is
+    block_at write (st_at c) c.args.x (length ((c.args.bytes.now))) _ c.place_block-located.ensures _ c.in-At.is
 
 pub overflow_add-end : goal.overflow_add-end
 overflow_add-end c =

@@ -1,4 +1,3 @@
-use borrow.Author.Rules.{rules}
 use Rattle.rules.specs.Instructions.{byte_operand, rights_operand, grant_operands, formed}
 use Rattle.rules.specs.declared.Instruction.TheVariants.{Store, Protect, Grant, Transfer}
 use Rattle.rules.proofs.Operands.{byte_small, rights_small, grant_small, cut_kept, past_table, above}

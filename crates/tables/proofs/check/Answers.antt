@@ -1,7 +1,6 @@
 use mathlib.Core.Path.{◌≡◌, sym, ◌∙◌}
 use mathlib.Core.Bool.{true}
 use native.Mathlib.Omega.{arith}
-use borrow.Author.Rules.{rules}
 use Rattle.rules.specs.Numbers.{Tables, tables}
 use Rattle.rules.specs.Refusals.{well_sized}
 use Rattle.rules.proofs.Sizes.{sized}
@@ -10,9 +9,14 @@ use Rattle.tables.proofs.check.Goals as goal
 use Rattle.tables.proofs.check.Goals.{Start, Then-well_sized}
 
 abbrev lent : Start → Tables
-lent c = tables c.args.m c.args.first.now c.args.last.now c.args.offset.now c.args.marks.now c.args.rights.now c.args.grants.now c.args.memory.now
+lent c =
+    tables c.args.m c.args.first.now c.args.last.now c.args.offset.now c.args.marks.now c.args.rights.now
+    c.args.grants.now c.args.memory.now
 
-sizes_passed : (c : Then-well_sized) → well_sized (tables c.args.m c.args.first.now c.args.last.now c.args.offset.now c.args.marks.now c.args.rights.now c.args.grants.now c.args.memory.now) ≡ true
+sizes_passed : (c : Then-well_sized) → well_sized (
+    tables c.args.m c.args.first.now c.args.last.now c.args.offset.now c.args.marks.now c.args.rights.now
+    c.args.grants.now c.args.memory.now
+    ) ≡ true
 sizes_passed c = sym c.well_sized.ensures ∙ c.if-well_sized.true
 
 pub lowest_unsound-c-requires : goal.lowest_unsound-c-requires

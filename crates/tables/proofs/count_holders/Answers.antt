@@ -1,11 +1,6 @@
-use Prim.Native.Nat.{ℕ, ◌-◌, ◌≤◌}
 use mathlib.Core.Path.{◌≡◌, sym, ap, ◌∙◌}
-use mathlib.Core.List.{List}
-use mathlib.Core.Bool.{Bool}
-use mathlib.Core.Logic.{⊎_elim}
 use native.Mathlib.Omega.{arith}
-use lib.ListN.{length, get_or}
-use lib.Dec.{ltb}
+use lib.ListN.{length}
 use borrow.Author.Rules.{rules}
 use borrow.Author.Tests.{lt-ltb, le-ltb}
 use Rattle.rules.specs.Below.{count}
@@ -27,8 +22,8 @@ loop-i-preserved c =
     let i = c.loop-i.i in (
       search rules,
       elim c.if-row-i-gt0.branch [
-        then-row-i-gt0 w ↦ omega (arith, count_yes p i (lt-ltb _ _ w.if-row-i-gt0.true))
-      | else-row-i-gt0 w ↦ omega (arith, count_no p i (le-ltb _ _ w.if-row-i-gt0.false))
+        | then-row-i-gt0 w ↦ omega (arith, count_yes p i (lt-ltb _ _ w.if-row-i-gt0.true))
+        | else-row-i-gt0 w ↦ omega (arith, count_no p i (le-ltb _ _ w.if-row-i-gt0.false))
       ],
     )
 

@@ -1,11 +1,11 @@
-use Prim.Native.Nat.{◌+◌, ◌*◌, ◌-◌, ◌≤◌}
+use Prim.Native.Nat.{◌+◌, ◌*◌, ◌≤◌}
 use mathlib.Core.Path.{◌≡◌, sym, ap, ◌∙◌}
 use mathlib.Core.Bool.{not}
 use native.Mathlib.Omega.{arith}
 use native.Mathlib.Nat.{add-sub_cancel_left}
 use lib.Dec.{leb}
 use borrow.Author.Rules.{rules}
-use Rattle.rules.proofs.Below.{Searched, searched_none, searched_here, searched_later, searched_all}
+use Rattle.rules.proofs.Below.{searched_none, searched_here, searched_later, searched_all}
 use Rattle.rules.proofs.Sizes.{row_below}
 use Rattle.tables.specs.Check.{excess}
 use Rattle.tables.proofs.Laws.{row_every, no_excess}

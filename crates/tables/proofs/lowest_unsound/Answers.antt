@@ -1,21 +1,23 @@
-use Prim.Native.Nat.{◌-◌, ◌≤◌}
 use mathlib.Core.Path.{◌≡◌, ◌∙◌}
-use mathlib.Core.Bool.{not}
 use native.Mathlib.Omega.{arith}
 use borrow.Author.Rules.{rules}
-use Rattle.rules.specs.Numbers.{Tables, tables, N}
-use Rattle.rules.specs.Sound.{sound_cell}
-use Rattle.rules.proofs.Below.{Searched, searched_none}
+use Rattle.rules.specs.Numbers.{Tables, tables}
+use Rattle.rules.proofs.Below.{searched_none}
 use Rattle.rules.proofs.Sizes.{sized, entries_few}
 use Rattle.tables.proofs.Laws.{Moderate, before_excess, excess_lowest, sound_later, unsound_here}
 use Rattle.tables.proofs.lowest_unsound.Goals as goal
 use Rattle.tables.proofs.lowest_unsound.Goals.{In-loop-c, Start}
 
 abbrev lent : Start → Tables
-lent c = tables c.args.m c.args.first.now c.args.last.now c.args.offset.now c.args.marks.now c.args.rights.now c.args.grants.now c.args.memory.now
+lent c =
+    tables c.args.m c.args.first.now c.args.last.now c.args.offset.now c.args.marks.now c.args.rights.now
+    c.args.grants.now c.args.memory.now
 
 -- the cell that is looked at
-its_cell : (c : In-loop-c) → Moderate (tables c.args.m c.args.first.now c.args.last.now c.args.offset.now c.args.marks.now c.args.rights.now c.args.grants.now c.args.memory.now)
+its_cell : (c : In-loop-c) → Moderate (
+    tables c.args.m c.args.first.now c.args.last.now c.args.offset.now c.args.marks.now c.args.rights.now
+    c.args.grants.now c.args.memory.now
+    )
     c.loop-c.c
 its_cell c =
     before_excess _ _ _ c.lowest_excess-end.ensures c.loop-c-test.true

@@ -3,7 +3,6 @@ use mathlib.Core.Bool.{and-true}
 use native.Mathlib.Omega.{arith}
 use native.Mathlib.Nat.{add-sub_cancel_left}
 use lib.ListN.{length-take}
-use borrow.Author.Rules.{rules}
 use Rattle.rules.specs.Numbers.{Tables, tables}
 use Rattle.rules.specs.Sound.{sound_cell}
 use Rattle.rules.proofs.Sizes.{Sized, sized, entries_few}
@@ -11,9 +10,10 @@ use Rattle.tables.proofs.Laws.{RowOf, row_of, row_holders, at_most_seven}
 use Rattle.tables.proofs.sound_cell.Goals as goal
 use Rattle.tables.proofs.sound_cell.Goals.{Start}
 
--- The answers of the calls are joined as in the definition; that no right is above 7 is known.
 abbrev lent : Start → Tables
-lent c = tables c.args.m c.args.first.now c.args.last.now c.args.offset.now c.args.marks.now c.args.rights.now c.args.grants.now c.args.memory.now
+lent c =
+    tables c.args.m c.args.first.now c.args.last.now c.args.offset.now c.args.marks.now c.args.rights.now
+    c.args.grants.now c.args.memory.now
 
 sizes : (c : Start) → Sized (lent c)
 sizes c = sized (lent c) c.requires.sized

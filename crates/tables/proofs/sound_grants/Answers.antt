@@ -1,12 +1,8 @@
-use Prim.Native.Nat.{ℕ, ◌-◌, ◌≤◌}
 use mathlib.Core.Path.{◌≡◌, refl, sym, ap, ◌∙◌}
-use mathlib.Core.List.{List}
-use mathlib.Core.Bool.{Bool}
 use native.Mathlib.Omega.{arith}
-use lib.ListN.{length, get_or}
+use lib.ListN.{length}
 use borrow.Author.Rules.{rules}
 use Rattle.rules.specs.Below.{every}
-use Rattle.rules.specs.Sound.{sound_grant}
 use Rattle.rules.proofs.Below.{every_none, every_more}
 use Rattle.tables.proofs.sound_grants.Goals as goal
 use Rattle.tables.proofs.sound_grants.Invariants.{sound}

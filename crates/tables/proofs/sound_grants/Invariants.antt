@@ -1,18 +1,14 @@
 -- The loop's invariant: `i` is at most the row's length, `d` is `i` as a granter's number, and `ok` says whether every
+-- entry below `i` is sound.
 use Prim.Native.Nat.{ℕ, ◌-◌, ◌≤◌}
-use mathlib.Core.Path.{◌≡◌, refl, sym, ap, ◌∙◌}
+use mathlib.Core.Path.{◌≡◌}
 use mathlib.Core.List.{List}
 use mathlib.Core.Bool.{Bool}
-use native.Mathlib.Omega.{arith}
 use lib.ListN.{length, get_or}
-use borrow.Author.Rules.{rules}
 use Rattle.rules.specs.Below.{every}
 use Rattle.rules.specs.Sound.{sound_grant}
-use Rattle.rules.proofs.Below.{every_none, every_more}
 use Rattle.tables.proofs.sound_grants.Given as goal
 
--- The loop's invariant: `i` is at most the row's length, `d` is `i` as a granter's number, and `ok` says whether every
--- entry below `i` is sound.
 abbrev pub sound : ℕ → List ℕ → (d : ℕ) → Bool
 sound m row d = sound_grant m d (get_or row d 0)
 

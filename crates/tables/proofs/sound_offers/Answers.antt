@@ -1,7 +1,6 @@
 -- The laws turn what the calls say of a row into what is said of the list.
 use native.Mathlib.Omega.{arith}
 use native.Mathlib.Nat.{add-sub_cancel_left}
-use borrow.Author.Rules.{rules}
 use Rattle.rules.specs.Sound.{sound_grant}
 use Rattle.tables.proofs.Laws.{row_every}
 use Rattle.tables.proofs.sound_offers.Goals as goal

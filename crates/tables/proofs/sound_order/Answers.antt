@@ -1,5 +1,4 @@
 use mathlib.Core.Path.{sym}
-use borrow.Author.Rules.{rules}
 use Rattle.tables.proofs.Laws.{first_cell, later_cell}
 use Rattle.tables.proofs.sound_order.Goals as goal
 

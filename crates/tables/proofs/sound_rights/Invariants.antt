@@ -1,17 +1,13 @@
 -- The loop's invariant: `i` is at most the row's length, and `ok` says whether every entry below `i` is at most 7.
 use Prim.Native.Nat.{ℕ, ◌-◌, ◌≤◌}
-use mathlib.Core.Path.{◌≡◌, sym, ap, ◌∙◌}
+use mathlib.Core.Path.{◌≡◌}
 use mathlib.Core.List.{List}
 use mathlib.Core.Bool.{Bool}
-use native.Mathlib.Omega.{arith}
 use lib.ListN.{length, get_or}
 use lib.Dec.{leb}
-use borrow.Author.Rules.{rules}
 use Rattle.rules.specs.Below.{every}
-use Rattle.rules.proofs.Below.{every_none, every_more}
 use Rattle.tables.proofs.sound_rights.Given as goal
 
--- The loop's invariant: `i` is at most the row's length, and `ok` says whether every entry below `i` is at most 7.
 abbrev pub small : List ℕ → (d : ℕ) → Bool
 small row d = leb (get_or row d 0) 7
 

@@ -1,7 +1,6 @@
 use mathlib.Core.Path.{sym, ◌∙◌}
 use native.Mathlib.Omega.{arith}
 use lib.ListN.{length}
-use borrow.Author.Rules.{rules}
 use Rattle.rules.specs.Numbers.{right_lengths}
 use Rattle.rules.specs.Refusals.{well_sized}
 use Rattle.rules.proofs.Sizes.{bounds, entries_few}

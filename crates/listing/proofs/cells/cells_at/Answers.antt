@@ -3,9 +3,7 @@ use borrow.Author.Tests.{not-true, not-false}
 use Prim.Native.Nat.{◌<◌}
 use Rattle.listing.specs.Lines.{field}
 use Rattle.listing.proofs.Rows.{mark_below}
-use Prim.Native.Nat.{◌-◌}
-use Rattle.listing.proofs.Loops.{CellsRead, cells_more, cells_stop, cells_full}
-use borrow.Author.Rules.{rules}
+use Rattle.listing.proofs.Loops.{cells_more, cells_stop, cells_full}
 use Rattle.listing.proofs.cells.cells_at.Goals as goal
 
 pub returns-then-not-r : goal.returns-then-not-r

@@ -1,11 +1,5 @@
-use native.Mathlib.Omega.{arith}
-use borrow.Author.Tests.{not-true, not-false}
-use Prim.Native.Nat.{◌<◌}
-use Rattle.listing.specs.Lines.{field}
-use Rattle.listing.proofs.Rows.{mark_below}
 use Prim.Native.Nat.{◌-◌}
-use Rattle.listing.proofs.Loops.{CellsRead, cells_more, cells_stop, cells_full}
-use borrow.Author.Rules.{rules}
+use Rattle.listing.proofs.Loops.{CellsRead}
 use Rattle.listing.proofs.cells.cells_at.Given as goal
 
 abbrev pub invariant-loop-n : goal.invariant-loop-n

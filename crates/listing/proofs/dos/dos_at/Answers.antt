@@ -1,9 +1,8 @@
 use native.Mathlib.Omega.{arith}
 use borrow.Author.Tests.{not-true, not-false}
-use Prim.Native.Nat.{◌+◌, ◌-◌, ◌*◌, ◌<◌}
+use Prim.Native.Nat.{◌+◌, ◌*◌, ◌<◌}
 use lib.ListN.{length, length-set}
-use Rattle.listing.proofs.Loops.{DosRead, dos_none, do_room, dos_more, dos_stop, dos_full}
-use borrow.Author.Rules.{rules}
+use Rattle.listing.proofs.Loops.{dos_none, do_room, dos_more, dos_stop, dos_full}
 use Rattle.listing.proofs.dos.dos_at.Goals as goal
 use Rattle.listing.proofs.dos.dos_at.Goals.{Else-not-r}
 

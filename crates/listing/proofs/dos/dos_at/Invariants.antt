@@ -1,9 +1,6 @@
-use native.Mathlib.Omega.{arith}
-use borrow.Author.Tests.{not-true, not-false}
-use Prim.Native.Nat.{◌+◌, ◌-◌, ◌*◌, ◌<◌}
-use lib.ListN.{length, length-set}
-use Rattle.listing.proofs.Loops.{DosRead, dos_none, do_room, dos_more, dos_stop, dos_full}
-use borrow.Author.Rules.{rules}
+use Prim.Native.Nat.{◌-◌}
+use lib.ListN.{length}
+use Rattle.listing.proofs.Loops.{DosRead}
 use Rattle.listing.proofs.dos.dos_at.Given as goal
 
 abbrev pub invariant-loop-n : goal.invariant-loop-n

@@ -2,7 +2,6 @@ use native.Mathlib.Omega.{arith}
 use Prim.Native.Nat.{◌<◌}
 use Rattle.listing.specs.Lines.{field, byte_at}
 use Rattle.listing.proofs.Rows.{byte_below}
-use borrow.Author.Rules.{rules}
 use Rattle.listing.proofs.entries.byte_at.Goals as goal
 
 pub overflow_cast-result-2 : goal.overflow_cast-result-2

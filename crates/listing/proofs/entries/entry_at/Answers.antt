@@ -1,4 +1,3 @@
-use borrow.Author.Rules.{rules}
 use Rattle.listing.proofs.entries.entry_at.Goals as goal
 
 pub right_at-requires : goal.right_at-requires

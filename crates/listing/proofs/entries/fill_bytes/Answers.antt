@@ -4,12 +4,10 @@ use Prim.Native.Nat.{◌<◌}
 use mathlib.Core.Bool.{true}
 use Rattle.text.proofs.Cases.{and_left}
 use Rattle.listing.proofs.Rows.{kind_inside, kind_byte}
-use Prim.Native.Nat.{◌-◌}
 use lib.ListN.{length}
 use Rattle.listing.specs.Reading.{line_of, size_of}
 use Rattle.listing.specs.declared.entries.Entry.{Entry}
-use Rattle.listing.proofs.Loops.{EntriesRead, entries_none, entries_more, entries_stop, entries_full}
-use borrow.Author.Rules.{rules}
+use Rattle.listing.proofs.Loops.{entries_none, entries_more, entries_stop, entries_full}
 use Rattle.listing.proofs.entries.fill_bytes.Goals as goal
 use Rattle.listing.proofs.entries.fill_bytes.Goals.{Else-not-rises}
 

@@ -1,16 +1,7 @@
-use native.Mathlib.Omega.{arith}
-use borrow.Author.Tests.{not-true, not-false}
-use mathlib.Core.Path.{◌≡◌, sym, ap, ◌∙◌}
-use Prim.Native.Nat.{◌<◌}
-use mathlib.Core.Bool.{true}
-use Rattle.text.proofs.Cases.{and_left}
-use Rattle.listing.proofs.Rows.{kind_inside, kind_byte}
 use Prim.Native.Nat.{◌-◌}
 use lib.ListN.{length}
-use Rattle.listing.specs.Reading.{line_of, size_of}
-use Rattle.listing.specs.declared.entries.Entry.{Entry}
-use Rattle.listing.proofs.Loops.{EntriesRead, entries_none, entries_more, entries_stop, entries_full}
-use borrow.Author.Rules.{rules}
+use Rattle.listing.specs.Reading.{line_of}
+use Rattle.listing.proofs.Loops.{EntriesRead}
 use Rattle.listing.proofs.entries.fill_bytes.Given as goal
 
 abbrev pub invariant-loop-n : goal.invariant-loop-n

@@ -2,7 +2,6 @@ use native.Mathlib.Omega.{arith}
 use Prim.Native.Nat.{◌+◌, ◌*◌, ◌≤◌, ◌<◌}
 use Rattle.listing.specs.Lines.{field, right_at}
 use Rattle.listing.proofs.Rows.{FewNamed, right_few, product_small, rights_below}
-use borrow.Author.Rules.{rules}
 use Rattle.listing.proofs.entries.right_at.Goals as goal
 use Rattle.listing.proofs.entries.right_at.Goals.{After-right_row-r}
 

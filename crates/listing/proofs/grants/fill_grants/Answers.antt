@@ -4,12 +4,10 @@ use Prim.Native.Nat.{◌*◌, ◌<◌}
 use mathlib.Core.Bool.{true}
 use Rattle.text.proofs.Cases.{and_left}
 use Rattle.listing.proofs.Rows.{grant_inside}
-use Prim.Native.Nat.{◌-◌}
 use lib.ListN.{length}
 use Rattle.listing.specs.Lines.{grant_at}
 use Rattle.listing.specs.declared.entries.Entry.{Entry}
-use Rattle.listing.proofs.Loops.{EntriesRead, entries_none, entries_more, entries_stop, entries_full}
-use borrow.Author.Rules.{rules}
+use Rattle.listing.proofs.Loops.{entries_none, entries_more, entries_stop, entries_full}
 use Rattle.listing.proofs.grants.fill_grants.Goals as goal
 use Rattle.listing.proofs.grants.fill_grants.Goals.{Else-not-rises}
 

@@ -1,16 +1,7 @@
-use native.Mathlib.Omega.{arith}
-use borrow.Author.Tests.{not-true, not-false}
-use mathlib.Core.Path.{◌≡◌, sym, ap, ◌∙◌}
-use Prim.Native.Nat.{◌*◌, ◌<◌}
-use mathlib.Core.Bool.{true}
-use Rattle.text.proofs.Cases.{and_left}
-use Rattle.listing.proofs.Rows.{grant_inside}
 use Prim.Native.Nat.{◌-◌}
 use lib.ListN.{length}
 use Rattle.listing.specs.Lines.{grant_at}
-use Rattle.listing.specs.declared.entries.Entry.{Entry}
-use Rattle.listing.proofs.Loops.{EntriesRead, entries_none, entries_more, entries_stop, entries_full}
-use borrow.Author.Rules.{rules}
+use Rattle.listing.proofs.Loops.{EntriesRead}
 use Rattle.listing.proofs.grants.fill_grants.Given as goal
 
 abbrev pub invariant-loop-k : goal.invariant-loop-k

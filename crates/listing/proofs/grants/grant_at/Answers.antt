@@ -2,7 +2,6 @@ use native.Mathlib.Omega.{arith}
 use Prim.Native.Nat.{◌+◌, ◌*◌, ◌≤◌, ◌<◌}
 use Rattle.listing.specs.Lines.{field, grant_at}
 use Rattle.listing.proofs.Rows.{FewNamed, grant_few, product_small, target_below, grant_below}
-use borrow.Author.Rules.{rules}
 use Rattle.listing.proofs.grants.grant_at.Goals as goal
 use Rattle.listing.proofs.grants.grant_at.Goals.{After-grant_row-r}
 

@@ -1,5 +1,4 @@
 use Rattle.listing.specs.Lines.{grant_row}
-use borrow.Author.Rules.{rules}
 use Rattle.listing.proofs.lines.grant_row.Goals as goal
 
 pub returns : goal.returns

@@ -1,5 +1,4 @@
 use Rattle.listing.specs.Lines.{head_row}
-use borrow.Author.Rules.{rules}
 use Rattle.listing.proofs.lines.head_row.Goals as goal
 
 pub returns : goal.returns

@@ -1,5 +1,4 @@
 use Rattle.listing.specs.Lines.{right_row}
-use borrow.Author.Rules.{rules}
 use Rattle.listing.proofs.lines.right_row.Goals as goal
 
 pub returns : goal.returns

@@ -1,5 +1,4 @@
 use Rattle.listing.specs.Lines.{size_row}
-use borrow.Author.Rules.{rules}
 use Rattle.listing.proofs.lines.size_row.Goals as goal
 
 pub returns : goal.returns

@@ -1,11 +1,6 @@
-use native.Mathlib.Omega.{arith}
-use Rattle.listing.specs.Words.{answer_word}
-use lib.ListN.{length}
-use Prim.Native.Nat.{◌+◌, ◌≤◌}
 use Prim.Native.Nat.{◌-◌}
-use Rattle.listing.proofs.Written.{row_put, answer_short, Lined, lined_none, lined_more, lined_all}
+use Rattle.listing.proofs.Written.{Lined}
 use Rattle.listing.specs.Reading.{answer_of}
-use borrow.Author.Rules.{rules}
 use Rattle.listing.proofs.put.put_answers.Given as goal
 
 abbrev pub invariant-loop-k : goal.invariant-loop-k

@@ -3,7 +3,6 @@ use lib.ListN.{length}
 use native.Mathlib.Omega.{arith}
 use Rattle.listing.specs.Words.{bad_word}
 use Rattle.listing.proofs.Written.{row_put, row_short}
-use borrow.Author.Rules.{rules}
 use Rattle.listing.proofs.put.put_bad.Goals as goal
 
 pub returns : goal.returns

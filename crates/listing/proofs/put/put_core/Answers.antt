@@ -4,7 +4,6 @@ use native.Mathlib.Omega.{arith}
 use Rattle.listing.specs.Words.{core_word}
 use Rattle.listing.proofs.Written.{row_put, row_short}
 use Rattle.listing.specs.Output.{core_line}
-use borrow.Author.Rules.{rules}
 use Rattle.listing.proofs.put.put_core.Goals as goal
 
 pub returns : goal.returns

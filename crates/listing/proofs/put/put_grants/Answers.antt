@@ -1,9 +1,5 @@
 use native.Mathlib.Omega.{arith}
-use lib.ListN.{length}
-use Prim.Native.Nat.{◌-◌}
-use Rattle.listing.proofs.Written.{Lined, lined_none, lined_more, lined_all}
-use Rattle.listing.specs.Output.{grant_line}
-use borrow.Author.Rules.{rules}
+use Rattle.listing.proofs.Written.{lined_none, lined_more, lined_all}
 use Rattle.listing.proofs.put.put_grants.Goals as goal
 
 pub loop-e-init : goal.loop-e-init

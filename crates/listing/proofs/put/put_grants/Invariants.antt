@@ -1,9 +1,7 @@
-use native.Mathlib.Omega.{arith}
 use lib.ListN.{length}
 use Prim.Native.Nat.{◌-◌}
-use Rattle.listing.proofs.Written.{Lined, lined_none, lined_more, lined_all}
+use Rattle.listing.proofs.Written.{Lined}
 use Rattle.listing.specs.Output.{grant_line}
-use borrow.Author.Rules.{rules}
 use Rattle.listing.proofs.put.put_grants.Given as goal
 
 abbrev pub invariant-loop-e : goal.invariant-loop-e

@@ -5,7 +5,6 @@ use native.Mathlib.Nat.{div-le_self, mod-lt}
 use Rattle.listing.specs.Words.{right_word}
 use Rattle.text.proofs.Writing.{put_nothing}
 use Rattle.listing.proofs.Written.{row_put, right_short, no_right, some_right}
-use borrow.Author.Rules.{rules}
 use Rattle.listing.proofs.put.put_right.Goals as goal
 use Rattle.listing.proofs.put.put_right.Goals.{Start}
 
@@ -25,12 +24,12 @@ returns-then-h-eq0 c =
     }
 
 pub overflow_cast-e : goal.overflow_cast-e
-overflow_cast-e c =    let s = (goal.at.overflow_cast-e c).Start in
- omega (arith, cell_small s)
+overflow_cast-e c = let s = (goal.at.overflow_cast-e c).Start in
+    omega (arith, cell_small s)
 
 pub overflow_cast-e-2 : goal.overflow_cast-e-2
-overflow_cast-e-2 c =    let s = (goal.at.overflow_cast-e-2 c).Start in
- omega (arith, division_small s)
+overflow_cast-e-2 c = let s = (goal.at.overflow_cast-e-2 c).Start in
+    omega (arith, division_small s)
 
 pub returns : goal.returns
 returns c =

@@ -1,7 +1,6 @@
 use native.Mathlib.Omega.{arith}
 use Rattle.listing.specs.Output.{state_lines}
 use Rattle.text.proofs.Writing.{put_then}
-use borrow.Author.Rules.{rules}
 use Rattle.listing.proofs.put.put_state.Goals as goal
 
 pub returns : goal.returns

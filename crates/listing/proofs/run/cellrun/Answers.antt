@@ -7,7 +7,6 @@ use Rattle.text.specs.declared.line.Row.{Row}
 use Rattle.text.proofs.Writing.{put_nothing, put_then}
 use Rattle.listing.proofs.Rows.{size_divisions, size_bytes}
 use Rattle.listing.proofs.Whole.{ends_inside, nothing_written, text_long, head_wrong, size_wrong, size_right}
-use borrow.Author.Rules.{rules}
 use Rattle.listing.proofs.run.cellrun.Goals as goal
 use Rattle.listing.proofs.run.cellrun.Goals.{After-head_row-head}
 
@@ -28,8 +27,8 @@ returns-then-s-gt65536 c =
     let room = c.if-out-lt-ROOM.false in
     let bad = c.put_bad.ensures in
     let all =
-        ends_inside room (omega (arith, bad.ends, c.put_head-at.ensures.ends))
-        (rw (← text_long _ c.args.s.now room (omega (arith, c.if-s-gt65536.true))) (put_then c.put_head-at.ensures.puts bad.puts)) in
+    ends_inside room (omega (arith, bad.ends, c.put_head-at.ensures.ends))
+    (rw (← text_long _ c.args.s.now room (omega (arith, c.if-s-gt65536.true))) (put_then c.put_head-at.ensures.puts bad.puts)) in
     record { puts = all.0; ends = all.1 }
 
 pub returns-then-not-head : goal.returns-then-not-head
@@ -38,9 +37,9 @@ returns-then-not-head c =
     let room = c.if-out-lt-ROOM.false in
     let bad = c.put_bad-then-not-head.ensures in
     let all =
-        ends_inside room (omega (arith, bad.ends, c.put_head-at.ensures.ends))
-        (rw (← head_wrong _ _ room (short head) _ c.head_row-head.ensures (not-true _ c.if-not-head.true))
-        (put_then c.put_head-at.ensures.puts bad.puts)) in
+    ends_inside room (omega (arith, bad.ends, c.put_head-at.ensures.ends))
+    (rw (← head_wrong _ _ room (short head) _ c.head_row-head.ensures (not-true _ c.if-not-head.true))
+    (put_then c.put_head-at.ensures.puts bad.puts)) in
     record { puts = all.0; ends = all.1 }
 
 pub returns-then-not-size : goal.returns-then-not-size
@@ -49,9 +48,9 @@ returns-then-not-size c =
     let room = c.if-out-lt-ROOM.false in
     let bad = c.put_bad-then-not-size.ensures in
     let all =
-        ends_inside room (omega (arith, bad.ends, c.put_head-at.ensures.ends))
-        (rw (← size_wrong _ _ room (short head) _ c.head_row-head.ensures (not-false _ c.if-not-head.false) _
-        c.size_row-size.ensures (not-true _ c.if-not-size.true)) (put_then c.put_head-at.ensures.puts bad.puts)) in
+    ends_inside room (omega (arith, bad.ends, c.put_head-at.ensures.ends))
+    (rw (← size_wrong _ _ room (short head) _ c.head_row-head.ensures (not-false _ c.if-not-head.false) _
+    c.size_row-size.ensures (not-true _ c.if-not-size.true)) (put_then c.put_head-at.ensures.puts bad.puts)) in
     record { puts = all.0; ends = all.1 }
 
 pub run_cells-requires : goal.run_cells-requires
@@ -72,7 +71,7 @@ returns c =
     let room = c.if-out-lt-ROOM.false in
     let rest = c.run_cells.ensures in
     let all =
-        ends_inside room rest.ends
-        (rw (← size_right _ _ room (short head) _ c.head_row-head.ensures (not-false _ c.if-not-head.false) _
-        c.size_row-size.ensures (not-false _ c.if-not-size.false)) (put_then c.put_head-at.ensures.puts rest.puts)) in
+    ends_inside room rest.ends
+    (rw (← size_right _ _ room (short head) _ c.head_row-head.ensures (not-false _ c.if-not-head.false) _
+    c.size_row-size.ensures (not-false _ c.if-not-size.false)) (put_then c.put_head-at.ensures.puts rest.puts)) in
     record { puts = all.0; ends = all.1 }

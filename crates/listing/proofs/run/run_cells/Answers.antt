@@ -5,7 +5,6 @@ use native.Mathlib.Omega.{arith}
 use lib.Seq.{length-take-le}
 use Rattle.listing.proofs.Rows.{product_small}
 use Rattle.listing.proofs.Whole.{zeros_part, part_long}
-use borrow.Author.Rules.{rules}
 use Rattle.listing.proofs.run.run_cells.Goals as goal
 use Rattle.listing.proofs.run.run_cells.Goals.{After-cells_at-cells}
 
@@ -15,8 +14,8 @@ entries : (c : After-cells_at-cells) → c.cells_at-cells.result.count * c.args.
 entries c = product_small _ _ c.cells_at-cells.ensures.few c.requires.1
 
 pub overflow_mul-entries : goal.overflow_mul-entries
-overflow_mul-entries c =    let k = (goal.at.overflow_mul-entries c).After-cells_at-cells in
- omega (arith, entries k)
+overflow_mul-entries c = let k = (goal.at.overflow_mul-entries c).After-cells_at-cells in
+    omega (arith, entries k)
 
 pub slice_bounds-run_rights-end : goal.slice_bounds-run_rights-end
 slice_bounds-run_rights-end c =
@@ -35,8 +34,8 @@ slice_bounds-run_rights-end-4 c =
     sym (length-take-le _ _ (omega (arith, c.cells_at-cells.ensures.few, c.cells_at-cells.auto.marks)))
 
 pub slice_bounds-rights-end : goal.slice_bounds-rights-end
-slice_bounds-rights-end c =    let k = (goal.at.slice_bounds-rights-end c).After-cells_at-cells in
- omega (arith, entries k)
+slice_bounds-rights-end c = let k = (goal.at.slice_bounds-rights-end c).After-cells_at-cells in
+    omega (arith, entries k)
 
 pub slice_bounds-run_rights-end-5 : goal.slice_bounds-run_rights-end-5
 slice_bounds-run_rights-end-5 c =
@@ -44,8 +43,8 @@ slice_bounds-run_rights-end-5 c =
     rw c.no_rights-rights.ensures (part_long _ 8192 (entries k))
 
 pub slice_bounds-grants-end : goal.slice_bounds-grants-end
-slice_bounds-grants-end c =    let k = (goal.at.slice_bounds-grants-end c).After-cells_at-cells in
- omega (arith, entries k)
+slice_bounds-grants-end c = let k = (goal.at.slice_bounds-grants-end c).After-cells_at-cells in
+    omega (arith, entries k)
 
 pub slice_bounds-run_rights-end-6 : goal.slice_bounds-run_rights-end-6
 slice_bounds-run_rights-end-6 c =

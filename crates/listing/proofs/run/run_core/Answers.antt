@@ -4,19 +4,19 @@ use native.Mathlib.Omega.{arith}
 use lib.ListN.{length, take}
 use lib.Seq.{length-take-le}
 use borrow.Author.Tests.{not-true, not-false}
-use Rattle.rules.specs.Numbers.{Tables}
-use Rattle.rules.specs.Numbers.{tables}
+use Rattle.rules.specs.Numbers.{Tables, tables}
 use Rattle.text.specs.declared.line.Row.{Row}
 use Rattle.listing.specs.Lines.{core_row}
 use Rattle.listing.specs.Listing.{Dos}
 use Rattle.listing.proofs.Whole.{core_wrong, dos_wrong, dos_right}
-use borrow.Author.Rules.{rules}
 use Rattle.listing.proofs.run.run_core.Goals as goal
 use Rattle.listing.proofs.run.run_core.Goals.{After-dos_at-dos, Start}
 
 -- the tables, which stand behind the text, the place and the line
 abbrev lent : Start → Tables
-lent c = tables c.args.m c.args.first.now c.args.last.now c.args.offset.now c.args.marks.now c.args.rights.now c.args.grants.now c.args.memory.now
+lent c =
+    tables c.args.m c.args.first.now c.args.last.now c.args.offset.now c.args.marks.now c.args.rights.now
+    c.args.grants.now c.args.memory.now
 
 -- from where the instructions were run back to where the text ended, to the do lines, to the core line, and to the start
 -- the do lines that `dos_at` answered and left

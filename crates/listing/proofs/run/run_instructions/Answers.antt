@@ -1,14 +1,16 @@
 use native.Mathlib.Omega.{arith}
-use Rattle.rules.specs.Numbers.{State, state}
-use Rattle.rules.specs.Numbers.{tables}
+use Rattle.rules.specs.Numbers.{State, state, tables}
 use Rattle.listing.proofs.Whole.{run_body}
-use borrow.Author.Rules.{rules}
 use Rattle.listing.proofs.run.run_instructions.Goals as goal
 use Rattle.listing.proofs.run.run_instructions.Goals.{Start}
 
 -- from where the answers were put back to where the instructions were run, and to the start
 abbrev start : Start → State
-start c = state (tables c.args.m c.args.first.now c.args.last.now c.args.offset.now c.args.marks.now c.args.rights.now c.args.grants.now c.args.memory.now) c.args.registers
+start c =
+    state
+    (tables c.args.m c.args.first.now c.args.last.now c.args.offset.now c.args.marks.now c.args.rights.now
+    c.args.grants.now c.args.memory.now)
+    c.args.registers
 
 pub put_answers-a-requires : goal.put_answers-a-requires
 put_answers-a-requires c =

@@ -5,7 +5,6 @@ use native.Mathlib.Omega.{arith}
 use lib.ListN.{length, length-replicate}
 use Rattle.listing.proofs.Rows.{product_small}
 use Rattle.listing.proofs.Whole.{rights_read}
-use borrow.Author.Rules.{rules}
 use Rattle.listing.proofs.run.run_rights.Goals as goal
 use Rattle.listing.proofs.run.run_rights.Goals.{After-fill_bytes-c, Start}
 

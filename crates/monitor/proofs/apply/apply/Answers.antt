@@ -1,25 +1,22 @@
--- The arms that write memory stand in `Memory`, those that write rights and grants in `Rights`; here are the others.
-use borrow.Author.Rules.{rules}
-use Rattle.monitor.proofs.Readiness.{cell_there, row_there, own_rights}
-use Rattle.monitor.proofs.Applying.{switch_done, invalidate_done, revalidate_done, exclusive_done}
-use Rattle.rules.specs.Numbers.{State, state}
-use Rattle.rules.specs.Numbers.{tables}
+-- The arms of `apply`: what a callee requires follows from what the public call tested and from the operands of the arm's kind; at
+-- an arm's end the law of its kind turns what its callees ensure into the rules' outcome. First the arms that read or write memory,
+-- then those that write rights and grants, then the others.
+use Rattle.monitor.proofs.Readiness.{cell_there, row_there, own_rights, place_there, byte_there, own_grant, source_grant}
+use Rattle.monitor.proofs.Applying.{switch_done, invalidate_done, revalidate_done, exclusive_done, fetch_there, load_done, store_done, fetch_done, grant_fits, transfer_fits, protect_done, grant_done, receive_done, transfer_done}
+use Rattle.rules.specs.Numbers.{State, state, tables}
 use Rattle.monitor.specs.Ready.{Ready}
-use Rattle.monitor.proofs.Readiness.{place_there, byte_there}
-use Rattle.monitor.proofs.Applying.{fetch_there, load_done, store_done, fetch_done}
-use Rattle.monitor.proofs.Readiness.{own_rights, own_grant, source_grant}
-use Rattle.monitor.proofs.Applying.{grant_fits, transfer_fits, protect_done, grant_done, receive_done, transfer_done}
 use Rattle.monitor.proofs.apply.apply.Goals as goal
 use Rattle.monitor.proofs.apply.apply.Goals.{After-held_at-held, Start}
 
--- The arms that write memory stand in `Memory`, those that write rights and grants in `Rights`; here are the others.
--- The arms of `apply` that read or write memory: what a callee requires follows from what the public call tested and from the
--- operands of the arm's kind; at an arm's end the law of its kind turns what its callees ensure into the rules' outcome.
 -- what was lent, and the registers
-abbrev pub st : Start → State
-st c = state (tables c.args.m c.args.first.now c.args.last.now c.args.offset.now c.args.marks.now c.args.rights.now c.args.grants.now c.args.memory.now) c.args.registers
+abbrev st_at : After-held_at-held → State
+st_at c =
+    state
+    (tables c.args.m c.args.first.now c.args.last.now c.args.offset.now c.args.marks.now c.args.rights.now
+    c.args.grants.now c.args.memory.now)
+    c.args.registers
 
-pub ready : (c : After-held_at-held) → Ready ((state (tables c.args.m c.args.first.now c.args.last.now c.args.offset.now c.args.marks.now c.args.rights.now c.args.grants.now c.args.memory.now) c.args.registers)) c.args.i c.args.c
+pub ready : (c : After-held_at-held) → Ready (st_at c) c.args.i c.args.c
 ready c = c.requires.ready
 
 pub place_of-requires : goal.place_of-requires

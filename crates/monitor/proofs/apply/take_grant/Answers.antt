@@ -1,5 +1,4 @@
 -- The rights are written, then the grant: what each callee ensures is what is to be shown.
-use borrow.Author.Rules.{rules}
 use Rattle.monitor.proofs.apply.take_grant.Goals as goal
 
 pub returns : goal.returns

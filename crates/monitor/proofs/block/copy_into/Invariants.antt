@@ -1,10 +1,7 @@
 -- The loop's invariant: the part is as long as the bytes, and its first `i` are the first `i` of the bytes.
 use Prim.Native.Nat.{◌-◌, ◌≤◌}
 use mathlib.Core.Path.{◌≡◌}
-use native.Mathlib.Omega.{arith}
 use lib.ListN.{length, take}
-use borrow.Author.Rules.{rules}
-use Rattle.monitor.proofs.Locating.{copied_more, copied_all}
 use Rattle.monitor.proofs.block.copy_into.Given as goal
 
 abbrev pub invariant-loop-i : goal.invariant-loop-i

@@ -1,8 +1,6 @@
 use Prim.Native.Nat.{ℕ}
 use native.Mathlib.Omega.{arith}
-use borrow.Author.Rules.{rules}
-use Rattle.rules.specs.Numbers.{State, state}
-use Rattle.rules.specs.Numbers.{tables}
+use Rattle.rules.specs.Numbers.{State, state, tables}
 use Rattle.rules.specs.Instructions.{place}
 use Rattle.monitor.proofs.Readiness.{CellIn, cell_in, cells_rise, entry_in_rights}
 use Rattle.monitor.proofs.Searching.{FoundAt, found_at, nowhere_uncovered}
@@ -11,25 +9,44 @@ use Rattle.monitor.proofs.block.locate.Goals as goal
 use Rattle.monitor.proofs.block.locate.Goals.{After-judge_whole-k, In-At, Start}
 
 abbrev st : Start → State
-st c = state (tables c.args.m c.args.first.now c.args.last.now c.args.offset.now c.args.marks.now c.args.rights.now c.args.grants.now c.args.memory.now) c.args.registers
+st c =
+    state
+    (tables c.args.m c.args.first.now c.args.last.now c.args.offset.now c.args.marks.now c.args.rights.now
+    c.args.grants.now c.args.memory.now)
+    c.args.registers
 
 -- where a cell was found
 abbrev cell : In-At → ℕ
 cell c = c.in-At.c
 
-found : (c : In-At) → FoundAt ((state (tables c.args.m c.args.first.now c.args.last.now c.args.offset.now c.args.marks.now c.args.rights.now c.args.grants.now c.args.memory.now) c.args.registers)).lent c.args.x (cell c)
-found c =
-    found_at ((state (tables c.args.m c.args.first.now c.args.last.now c.args.offset.now c.args.marks.now c.args.rights.now c.args.grants.now c.args.memory.now) c.args.registers)).lent _ _ c.find-f.ensures _ c.in-At.is
+-- the same at a later place
+abbrev st_at : In-At → State
+st_at c =
+    state
+    (tables c.args.m c.args.first.now c.args.last.now c.args.offset.now c.args.marks.now c.args.rights.now
+    c.args.grants.now c.args.memory.now)
+    c.args.registers
 
-inside : (c : In-At) → CellIn ((state (tables c.args.m c.args.first.now c.args.last.now c.args.offset.now c.args.marks.now c.args.rights.now c.args.grants.now c.args.memory.now) c.args.registers)).lent (cell c)
+abbrev st_at_2 : After-judge_whole-k → State
+st_at_2 c =
+    state
+    (tables c.args.m c.args.first.now c.args.last.now c.args.offset.now c.args.marks.now c.args.rights.now
+    c.args.grants.now c.args.memory.now)
+    c.args.registers
+
+found : (c : In-At) → FoundAt (st_at c).lent c.args.x (cell c)
+found c =
+    found_at (st_at c).lent _ _ c.find-f.ensures _ c.in-At.is
+
+inside : (c : In-At) → CellIn (st_at c).lent (cell c)
 inside c = cell_in _ c.requires.sizes _ (found c).cell.cell
 
 -- where the judge has answered
 answered : (c : After-judge_whole-k)
-    → Judged c.args.needed ((state (tables c.args.m c.args.first.now c.args.last.now c.args.offset.now c.args.marks.now c.args.rights.now c.args.grants.now c.args.memory.now) c.args.registers)) c.args.x
+    → Judged c.args.needed (st_at_2 c) c.args.x
     c.args.n c.in-At.c c.judge_whole-k.result
 answered c =
-    let s = (state (tables c.args.m c.args.first.now c.args.last.now c.args.offset.now c.args.marks.now c.args.rights.now c.args.grants.now c.args.memory.now) c.args.registers) in
+    let s = st_at_2 c in
     judged _ s _ _ _ _ _ _ (found_at s.lent _ _ c.find-f.ensures _ c.in-At.is) c.within_cell.ensures c.held_at-held.ensures c.judge_whole-k.ensures
 
 pub find-f-requires : goal.find-f-requires

@@ -1,6 +1,5 @@
 use mathlib.Core.Path.{refl}
 use native.Mathlib.Omega.{arith}
-use borrow.Author.Rules.{rules}
 use Rattle.rules.specs.Blocks.{within_cell}
 use Rattle.monitor.proofs.Locating.{beyond_cell}
 use Rattle.monitor.proofs.block.within_cell.Goals as goal

@@ -1,11 +1,9 @@
-use Prim.Native.Nat.{◌-◌, ◌≤◌, ◌<◌}
+use Prim.Native.Nat.{◌<◌}
 use mathlib.Core.Path.{◌≡◌}
-use mathlib.Core.Logic.{⊎_elim}
 use native.Mathlib.Omega.{arith}
 use lib.ListN.{length}
 use borrow.Author.Rules.{rules}
-use Rattle.monitor.proofs.Searching.{Ended, ended_none, ended_more, ended_same, ended_few}
-use Rattle.monitor.proofs.Searching.{found_here, found_nowhere}
+use Rattle.monitor.proofs.Searching.{Ended, ended_none, ended_more, ended_same, ended_few, found_here, found_nowhere}
 use Rattle.monitor.proofs.find.find.Goals as goal
 use Rattle.monitor.proofs.find.find.Goals.{After-loop-i, In-loop-i, then-last-i, else-last-i}
 
@@ -40,8 +38,8 @@ loop-i-preserved c =
     let rise = c.requires in (
       omega arith,
       elim c.if-last-i.branch [
-        then-last-i w ↦ rw w.ended-is (ended_more _ _ rise _ _ _ known h w.if-last-i.true)
-      | else-last-i w ↦ rw w.ended-is (ended_same _ _ rise _ _ _ known h w.if-last-i.false)
+        | then-last-i w ↦ rw w.ended-is (ended_more _ _ rise _ _ _ known h w.if-last-i.true)
+        | else-last-i w ↦ rw w.ended-is (ended_same _ _ rise _ _ _ known h w.if-last-i.false)
       ],
     )
 

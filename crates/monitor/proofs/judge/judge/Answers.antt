@@ -1,25 +1,23 @@
 -- What a look-up requires follows from what the public call tested and from the operands of the arm's kind. At an arm's end
-use borrow.Author.Rules.{rules}
-use Rattle.monitor.proofs.Readiness.{cell_there, row_there, own_rights, source_grant}
-use Rattle.monitor.proofs.Judging.{load_judged, store_judged, protect_judged, grant_judged, receive_judged, transfer_judged, invalidate_judged, revalidate_judged, exclusive_judged}
+-- the law of its kind turns what was looked up and the judge's answer into the first of its needs to fail. The arms that read a
+-- word come first.
+use Rattle.monitor.proofs.Readiness.{cell_there, row_there, own_rights, source_grant, covers_address, target_rights, place_there, word_there}
+use Rattle.monitor.proofs.Judging.{load_judged, store_judged, protect_judged, grant_judged, receive_judged, transfer_judged, invalidate_judged, revalidate_judged, exclusive_judged, fetch_judged, switch_judged}
 use mathlib.Core.Path.{sym, ◌∙◌}
-use Rattle.rules.specs.Numbers.{State, state}
-use Rattle.rules.specs.Numbers.{tables}
+use Rattle.rules.specs.Numbers.{State, state, tables}
 use Rattle.monitor.specs.Ready.{Ready}
-use Rattle.monitor.proofs.Readiness.{cell_there, covers_address, target_rights, place_there, word_there}
-use Rattle.monitor.proofs.Judging.{fetch_judged, switch_judged}
 use Rattle.monitor.proofs.judge.judge.Goals as goal
 use Rattle.monitor.proofs.judge.judge.Goals.{After-held_at-held, Start}
 
--- What a look-up requires follows from what the public call tested and from the operands of the arm's kind. At an arm's end
--- the law of its kind turns what was looked up and the judge's answer into the first of its needs to fail. The arms that read a
--- word stand in `Words`.
--- The arms of `judge` that read a word: fetch and switch. What a look-up requires follows from what the public call tested and from
--- the operands of the arm's kind.
-abbrev pub st : Start → State
-st c = state (tables c.args.m c.args.first.now c.args.last.now c.args.offset.now c.args.marks.now c.args.rights.now c.args.grants.now c.args.memory.now) c.args.registers
+-- what was lent, and the registers
+abbrev st_at : After-held_at-held → State
+st_at c =
+    state
+    (tables c.args.m c.args.first.now c.args.last.now c.args.offset.now c.args.marks.now c.args.rights.now
+    c.args.grants.now c.args.memory.now)
+    c.args.registers
 
-pub ready : (c : After-held_at-held) → Ready ((state (tables c.args.m c.args.first.now c.args.last.now c.args.offset.now c.args.marks.now c.args.rights.now c.args.grants.now c.args.memory.now) c.args.registers)) c.args.i c.args.c
+pub ready : (c : After-held_at-held) → Ready (st_at c) c.args.i c.args.c
 ready c = c.requires
 
 pub bounds-last-c : goal.bounds-last-c

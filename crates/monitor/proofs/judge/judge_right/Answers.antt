@@ -1,4 +1,3 @@
-use borrow.Author.Rules.{rules}
 use Rattle.rules.specs.Refusals.{first_failing}
 use Rattle.monitor.proofs.judge.judge_right.Goals as goal
 

@@ -1,8 +1,8 @@
-use Prim.Native.Nat.{ℕ, ◌-◌, ◌≤◌}
+use Prim.Native.Nat.{ℕ}
 use mathlib.Core.Path.{◌≡◌, refl, ap, ◌∙◌}
 use mathlib.Core.List.{List}
 use native.Mathlib.Omega.{arith}
-use lib.ListN.{length, set, length-set}
+use lib.ListN.{set, length-set}
 use Rattle.monitor.specs.Leaves.{filled}
 use Rattle.monitor.proofs.Running.{filled_more}
 use borrow.Author.Rules.{rules}

@@ -1,12 +1,8 @@
 -- The loop's invariant: the first `k` entries are filled, and the others as they were.
-use Prim.Native.Nat.{ℕ, ◌-◌, ◌≤◌}
-use mathlib.Core.Path.{◌≡◌, refl, ap, ◌∙◌}
-use mathlib.Core.List.{List}
-use native.Mathlib.Omega.{arith}
-use lib.ListN.{length, set, length-set}
+use Prim.Native.Nat.{◌-◌, ◌≤◌}
+use mathlib.Core.Path.{◌≡◌}
+use lib.ListN.{length}
 use Rattle.monitor.specs.Leaves.{filled}
-use Rattle.monitor.proofs.Running.{filled_more}
-use borrow.Author.Rules.{rules}
 use Rattle.monitor.proofs.list.fill.Given as goal
 
 abbrev pub invariant-loop-k : goal.invariant-loop-k

@@ -1,9 +1,8 @@
-use Prim.Native.Nat.{◌-◌, ◌≤◌}
+use Prim.Native.Nat.{◌-◌}
 use mathlib.Core.Path.{◌≡◌}
 use native.Mathlib.Omega.{arith}
-use Rattle.rules.specs.Numbers.{tables, state}
 use Rattle.monitor.specs.Answers.{came}
-use Rattle.monitor.proofs.Running.{Turn, turn_first, position_told, turn_next, turns_ran}
+use Rattle.monitor.proofs.Running.{turn_first, position_told, turn_next, turns_ran}
 use borrow.Author.Rules.{rules}
 use Rattle.monitor.proofs.list.run_list.Goals as goal
 use Rattle.monitor.proofs.list.run_list.Goals.{After-perform-answered}

@@ -1,11 +1,7 @@
 -- The loop's invariant: after `k` instructions the state is the definition's, and the answers stand in the two lists.
 use Prim.Native.Nat.{◌-◌, ◌≤◌}
-use mathlib.Core.Path.{◌≡◌}
-use native.Mathlib.Omega.{arith}
 use Rattle.rules.specs.Numbers.{tables, state}
-use Rattle.monitor.specs.Answers.{came}
-use Rattle.monitor.proofs.Running.{Turn, turn_first, position_told, turn_next, turns_ran}
-use borrow.Author.Rules.{rules}
+use Rattle.monitor.proofs.Running.{Turn}
 use Rattle.monitor.proofs.list.run_list.Given as goal
 
 abbrev pub invariant-loop-k : goal.invariant-loop-k

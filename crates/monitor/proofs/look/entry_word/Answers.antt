@@ -1,5 +1,4 @@
 use native.Mathlib.Omega.{arith}
-use borrow.Author.Rules.{rules}
 use Rattle.monitor.proofs.look.entry_word.Goals as goal
 
 pub word_in-requires : goal.word_in-requires

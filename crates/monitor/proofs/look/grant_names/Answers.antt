@@ -1,5 +1,4 @@
 use mathlib.Core.Path.{refl}
-use borrow.Author.Rules.{rules}
 use Rattle.rules.specs.Instructions.{grant_names}
 use Rattle.monitor.proofs.look.grant_names.Goals as goal
 

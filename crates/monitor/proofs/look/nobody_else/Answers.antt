@@ -1,6 +1,5 @@
 use mathlib.Core.Path.{sym, ◌∙◌}
 use Rattle.monitor.proofs.Searching.{somebody_else, nobody_at_all}
-use borrow.Author.Rules.{rules}
 use Rattle.monitor.proofs.look.nobody_else.Goals as goal
 
 pub returns-in-Division : goal.returns-in-Division

@@ -1,6 +1,5 @@
-use Prim.Native.Nat.{◌-◌, ◌≤◌}
-use Rattle.rules.proofs.Below.{Searched, searched_none, searched_later}
-use Rattle.monitor.proofs.Searching.{other_holds, other_here, other_nobody}
+use Rattle.rules.proofs.Below.{searched_none, searched_later}
+use Rattle.monitor.proofs.Searching.{other_here, other_nobody}
 use borrow.Author.Rules.{rules}
 use Rattle.monitor.proofs.look.other_holder.Goals as goal
 

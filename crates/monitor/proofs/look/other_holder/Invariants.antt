@@ -1,8 +1,7 @@
 -- The loop's invariant: `k` is at most M, and the search for another holder has come to `k`.
 use Prim.Native.Nat.{◌-◌, ◌≤◌}
-use Rattle.rules.proofs.Below.{Searched, searched_none, searched_later}
-use Rattle.monitor.proofs.Searching.{other_holds, other_here, other_nobody}
-use borrow.Author.Rules.{rules}
+use Rattle.rules.proofs.Below.{Searched}
+use Rattle.monitor.proofs.Searching.{other_holds}
 use Rattle.monitor.proofs.look.other_holder.Given as goal
 
 abbrev pub invariant-loop-k : goal.invariant-loop-k

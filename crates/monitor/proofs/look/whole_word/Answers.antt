@@ -1,4 +1,3 @@
-use borrow.Author.Rules.{rules}
 use Rattle.rules.specs.Instructions.{whole_word}
 use Rattle.monitor.proofs.Judging.{leb_moved}
 use Rattle.monitor.proofs.look.whole_word.Goals as goal

@@ -1,18 +1,19 @@
 -- The four numbers are decoded, and then the instruction is stepped: each return is one law of `Executing`.
-use borrow.Author.Rules.{rules}
 use mathlib.Core.Path.{ap}
 use native.Mathlib.Omega.{arith}
-use Rattle.rules.specs.Numbers.{State, state}
-use Rattle.rules.specs.Numbers.{tables}
+use Rattle.rules.specs.Numbers.{State, state, tables}
 use Rattle.rules.proofs.Kept.{first_holds}
 use Rattle.monitor.specs.Runs.{listed}
 use Rattle.monitor.proofs.Executing.{kind_in_range, executed_kind, executed_refused}
 use Rattle.monitor.proofs.step.perform.Goals as goal
 use Rattle.monitor.proofs.step.perform.Goals.{Start}
 
--- The four numbers are decoded, and then the instruction is stepped: each return is one law of `Executing`.
 abbrev st : Start → State
-st c = state (tables c.args.m c.args.first.now c.args.last.now c.args.offset.now c.args.marks.now c.args.rights.now c.args.grants.now c.args.memory.now) c.args.registers
+st c =
+    state
+    (tables c.args.m c.args.first.now c.args.last.now c.args.offset.now c.args.marks.now c.args.rights.now
+    c.args.grants.now c.args.memory.now)
+    c.args.registers
 
 pub overflow_cast-m : goal.overflow_cast-m
 overflow_cast-m c =

@@ -1,8 +1,6 @@
 -- The cell is found, the instruction judged on it and applied: each return is one law of `Stepping`.
-use borrow.Author.Rules.{rules}
 use mathlib.Core.Path.{◌∙◌}
-use Rattle.rules.specs.Numbers.{State, state}
-use Rattle.rules.specs.Numbers.{tables}
+use Rattle.rules.specs.Numbers.{State, state, tables}
 use Rattle.rules.specs.Instructions.{address_of}
 use Rattle.monitor.proofs.Readiness.{cells_rise}
 use Rattle.monitor.proofs.Searching.{FoundAt}
@@ -10,14 +8,25 @@ use Rattle.monitor.proofs.Stepping.{found_for, found_nothing, stepped_nowhere, s
 use Rattle.monitor.proofs.step.step.Goals as goal
 use Rattle.monitor.proofs.step.step.Goals.{In-At, Start}
 
--- The cell is found, the instruction judged on it and applied: each return is one law of `Stepping`.
 abbrev st : Start → State
-st c = state (tables c.args.m c.args.first.now c.args.last.now c.args.offset.now c.args.marks.now c.args.rights.now c.args.grants.now c.args.memory.now) c.args.registers
+st c =
+    state
+    (tables c.args.m c.args.first.now c.args.last.now c.args.offset.now c.args.marks.now c.args.rights.now
+    c.args.grants.now c.args.memory.now)
+    c.args.registers
+
+-- the same at a later place
+abbrev st_at : In-At → State
+st_at c =
+    state
+    (tables c.args.m c.args.first.now c.args.last.now c.args.offset.now c.args.marks.now c.args.rights.now
+    c.args.grants.now c.args.memory.now)
+    c.args.registers
 
 -- the entry, from where the cell is found, and from where it is judged
-found : (c : In-At) → FoundAt ((state (tables c.args.m c.args.first.now c.args.last.now c.args.offset.now c.args.marks.now c.args.rights.now c.args.grants.now c.args.memory.now) c.args.registers)).lent (address_of c.args.i) c.in-At.c
+found : (c : In-At) → FoundAt (st_at c).lent (address_of c.args.i) c.in-At.c
 found c =
-    found_for ((state (tables c.args.m c.args.first.now c.args.last.now c.args.offset.now c.args.marks.now c.args.rights.now c.args.grants.now c.args.memory.now) c.args.registers)).lent c.args.i _ _ c.address_of.ensures c.find-f.ensures
+    found_for (st_at c).lent c.args.i _ _ c.address_of.ensures c.find-f.ensures
     c.in-At.is
 
 pub find-f-requires : goal.find-f-requires
