@@ -1,29 +1,19 @@
 // The tables that a row starts with.
 use crate::set::{LASTS_AT, OFFSETS_AT, PASSED_AT, put_byte, put_number, set};
 use crate::words::*;
+use std::io;
+use std::io::Write;
 
 fn clear_numbers(list: &mut [u32]) {
-    let mut i = 0;
-    while i < list.len() {
-        list[i] = 0;
-        i += 1;
-    }
+    list.fill(0);
 }
 
 fn clear_bytes(list: &mut [u8]) {
-    let mut i = 0;
-    while i < list.len() {
-        list[i] = 0;
-        i += 1;
-    }
+    list.fill(0);
 }
 
 fn clear_grants(list: &mut [u16]) {
-    let mut i = 0;
-    while i < list.len() {
-        list[i] = 0;
-        i += 1;
-    }
+    list.fill(0);
 }
 
 fn clear(
@@ -71,19 +61,21 @@ fn setting(k: usize) -> [u32; 3] {
     if k < SETTINGS { LISTING[k] } else { [NONE; 3] }
 }
 
-fn listing(
+fn listing<W: Write>(
+    out: &mut W,
     numbers: &mut [u32],
     marks: &mut [u8],
     rights: &mut [u8],
     grants: &mut [u16],
     memory: &mut [u8],
-) {
-    let mut k: usize = 0;
-    while k < SETTINGS {
+) -> io::Result<()> {
+    for k in 0..SETTINGS {
         let s = setting(k);
-        set(s[0], s[1], s[2], numbers, marks, rights, grants, memory);
-        k += 1;
+        set(
+            out, s[0], s[1], s[2], numbers, marks, rights, grants, memory,
+        )?;
     }
+    Ok(())
 }
 
 // The first address of the full tables.
@@ -91,40 +83,47 @@ const LOWEST: u32 = 4294901760;
 
 // Tables of the largest size: 32 divisions, and 256 cells of 256 bytes, which fill the memory and the addresses from
 // LOWEST to the last. Division c % 32 has every right on cell c.
-fn full(numbers: &mut [u32], marks: &mut [u8], rights: &mut [u8]) {
-    let mut c: u32 = 0;
-    while c < 256 {
+fn full<W: Write>(
+    out: &mut W,
+    numbers: &mut [u32],
+    marks: &mut [u8],
+    rights: &mut [u8],
+) -> io::Result<()> {
+    for c in 0..256u32 {
         let at = c as usize;
-        put_number(numbers, at, LOWEST + 256 * c);
-        put_number(numbers, LASTS_AT + at, LOWEST + 256 * c + 255);
-        put_number(numbers, OFFSETS_AT + at, 256 * c);
-        put_byte(marks, at, 1);
-        put_byte(rights, at * 32 + at % 32, 7);
-        c += 1;
+        put_number(out, numbers, at, LOWEST + 256 * c)?;
+        put_number(out, numbers, LASTS_AT + at, LOWEST + 256 * c + 255)?;
+        put_number(out, numbers, OFFSETS_AT + at, 256 * c)?;
+        put_byte(out, marks, at, 1)?;
+        put_byte(out, rights, at * 32 + at % 32, 7)?;
     }
+    Ok(())
 }
 
-fn full_sizes(numbers: &mut [u32]) {
-    put_number(numbers, PASSED_AT + M as usize, 32);
-    put_number(numbers, PASSED_AT + N as usize, 256);
-    put_number(numbers, PASSED_AT + L as usize, 65536);
+fn full_sizes<W: Write>(out: &mut W, numbers: &mut [u32]) -> io::Result<()> {
+    put_number(out, numbers, PASSED_AT + M as usize, 32)?;
+    put_number(out, numbers, PASSED_AT + N as usize, 256)?;
+    put_number(out, numbers, PASSED_AT + L as usize, 65536)
 }
 
 // Makes the tables that `from` names.
-pub fn begin(
+pub fn begin<W: Write>(
+    out: &mut W,
     from: u32,
     numbers: &mut [u32],
     marks: &mut [u8],
     rights: &mut [u8],
     grants: &mut [u16],
     memory: &mut [u8],
-) {
+) -> io::Result<()> {
     if from == NEW {
         clear(numbers, marks, rights, grants, memory);
-        listing(numbers, marks, rights, grants, memory);
+        listing(out, numbers, marks, rights, grants, memory)
     } else if from == FULL {
         clear(numbers, marks, rights, grants, memory);
-        full(numbers, marks, rights);
-        full_sizes(numbers);
+        full(out, numbers, marks, rights)?;
+        full_sizes(out, numbers)
+    } else {
+        Ok(())
     }
 }

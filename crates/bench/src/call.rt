@@ -3,6 +3,8 @@ use crate::lend::least;
 use crate::show::{answer, core, part};
 use crate::words::*;
 use rules::Registers;
+use std::io;
+use std::io::Write;
 
 // What a row asks for, and what is passed beside the lists.
 #[derive(Clone, Copy)]
@@ -17,7 +19,8 @@ pub struct Asked {
 }
 
 // An instruction.
-fn execute(
+fn execute<W: Write>(
+    out: &mut W,
     asked: Asked,
     first: &[u32],
     last: &[u32],
@@ -26,20 +29,21 @@ fn execute(
     rights: &mut [u8],
     grants: &mut [u16],
     memory: &mut [u8],
-) -> Registers {
+) -> io::Result<Registers> {
     let before = asked.registers;
     let r = monitor::execute(
         asked.m, first, last, offset, marks, rights, grants, memory, before, asked.a, asked.b,
         asked.c, asked.d,
     );
     let after = r.registers;
-    answer(r.number, r.value);
-    core(before, after);
-    after
+    answer(out, r.number, r.value)?;
+    core(out, before, after)?;
+    Ok(after)
 }
 
 // A block write, of the first `b` bytes of the block.
-fn write_block(
+fn write_block<W: Write>(
+    out: &mut W,
     asked: Asked,
     first: &[u32],
     last: &[u32],
@@ -49,7 +53,7 @@ fn write_block(
     grants: &[u16],
     memory: &mut [u8],
     block: &[u8],
-) -> Registers {
+) -> io::Result<Registers> {
     let before = asked.registers;
     let n = least(asked.b as usize, block.len());
     let r = monitor::write_block(
@@ -66,9 +70,9 @@ fn write_block(
         &block[..n],
     );
     let after = r.registers;
-    answer(r.number, r.value);
-    core(before, after);
-    after
+    answer(out, r.number, r.value)?;
+    core(out, before, after)?;
+    Ok(after)
 }
 
 // A view's length, which may need 64 bits.
@@ -77,7 +81,8 @@ fn length_of(low: u32, high: u32) -> usize {
 }
 
 // The number and the value of a view.
-fn answer_view(
+fn answer_view<W: Write>(
+    out: &mut W,
     asked: Asked,
     first: &[u32],
     last: &[u32],
@@ -86,7 +91,7 @@ fn answer_view(
     rights: &[u8],
     grants: &[u16],
     memory: &[u8],
-) {
+) -> io::Result<()> {
     let r = monitor::view_answer(
         asked.m,
         first,
@@ -100,11 +105,12 @@ fn answer_view(
         asked.a,
         length_of(asked.b, asked.c),
     );
-    answer(r.number, r.value);
+    answer(out, r.number, r.value)
 }
 
 // A read view: its answer, and the part itself.
-fn view(
+fn view<W: Write>(
+    out: &mut W,
     asked: Asked,
     first: &[u32],
     last: &[u32],
@@ -113,9 +119,11 @@ fn view(
     rights: &[u8],
     grants: &[u16],
     memory: &[u8],
-) {
-    answer_view(asked, first, last, offset, marks, rights, grants, memory);
-    part(monitor::view(
+) -> io::Result<()> {
+    answer_view(
+        out, asked, first, last, offset, marks, rights, grants, memory,
+    )?;
+    let bytes = monitor::view(
         asked.m,
         first,
         last,
@@ -127,11 +135,13 @@ fn view(
         asked.registers,
         asked.a,
         length_of(asked.b, asked.c),
-    ));
+    );
+    part(out, bytes)
 }
 
 // A call that is no instruction.
-fn write_or_view(
+fn write_or_view<W: Write>(
+    out: &mut W,
     asked: Asked,
     first: &[u32],
     last: &[u32],
@@ -141,19 +151,22 @@ fn write_or_view(
     grants: &[u16],
     memory: &mut [u8],
     block: &[u8],
-) -> Registers {
+) -> io::Result<Registers> {
     if asked.call == WRITE {
         write_block(
-            asked, first, last, offset, marks, rights, grants, memory, block,
+            out, asked, first, last, offset, marks, rights, grants, memory, block,
         )
     } else {
-        view(asked, first, last, offset, marks, rights, grants, memory);
-        asked.registers
+        view(
+            out, asked, first, last, offset, marks, rights, grants, memory,
+        )?;
+        Ok(asked.registers)
     }
 }
 
 // The call that a row asks for.
-pub fn perform(
+pub fn perform<W: Write>(
+    out: &mut W,
     asked: Asked,
     first: &[u32],
     last: &[u32],
@@ -163,12 +176,14 @@ pub fn perform(
     grants: &mut [u16],
     memory: &mut [u8],
     block: &[u8],
-) -> Registers {
+) -> io::Result<Registers> {
     if asked.call == DO {
-        execute(asked, first, last, offset, marks, rights, grants, memory)
+        execute(
+            out, asked, first, last, offset, marks, rights, grants, memory,
+        )
     } else {
         write_or_view(
-            asked, first, last, offset, marks, rights, grants, memory, block,
+            out, asked, first, last, offset, marks, rights, grants, memory, block,
         )
     }
 }

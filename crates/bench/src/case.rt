@@ -4,35 +4,39 @@ use crate::set::{PASSED_AT, put_number};
 use crate::show::{case_number, changed_bytes, changed_grants};
 use crate::words::*;
 use rules::Registers;
+use std::io;
+use std::io::Write;
 
 // As much of a list as there is room for.
 fn copy_bytes(to: &mut [u8], from: &[u8]) {
     let n = least(to.len(), from.len());
-    let mut i = 0;
-    while i < n {
-        to[i] = from[i];
-        i += 1;
-    }
+    to[..n].copy_from_slice(&from[..n]);
 }
 
 fn copy_grants(to: &mut [u16], from: &[u16]) {
     let n = least(to.len(), from.len());
-    let mut i = 0;
-    while i < n {
-        to[i] = from[i];
-        i += 1;
-    }
+    to[..n].copy_from_slice(&from[..n]);
 }
 
 // The registers that the next row goes on with.
-fn keep_registers(numbers: &mut [u32], registers: Registers) {
-    put_number(numbers, PASSED_AT + CURRENT as usize, registers.current);
-    put_number(numbers, PASSED_AT + CALLER as usize, registers.caller);
-    put_number(numbers, PASSED_AT + PLACE as usize, registers.place);
+fn keep_registers<W: Write>(
+    out: &mut W,
+    numbers: &mut [u32],
+    registers: Registers,
+) -> io::Result<()> {
+    put_number(
+        out,
+        numbers,
+        PASSED_AT + CURRENT as usize,
+        registers.current,
+    )?;
+    put_number(out, numbers, PASSED_AT + CALLER as usize, registers.caller)?;
+    put_number(out, numbers, PASSED_AT + PLACE as usize, registers.place)
 }
 
 // Makes a row's call, and writes its line: the case's number, the answer, and what is not as it was.
-fn answered(
+fn answered<W: Write>(
+    out: &mut W,
     case: u32,
     row: [u32; 9],
     numbers: &mut [u32],
@@ -45,21 +49,22 @@ fn answered(
     was_rights: &[u8],
     was_grants: &[u16],
     was_memory: &[u8],
-) {
-    case_number(case);
+) -> io::Result<()> {
+    case_number(out, case)?;
     let asked = asked_by(row, numbers);
     let m = asked.m;
-    let after = lend(asked, numbers, marks, rights, grants, memory, block);
-    keep_registers(numbers, after);
-    changed_bytes(MARKS, 0, was_marks, marks);
-    changed_bytes(RIGHTS, m, was_rights, rights);
-    changed_grants(m, was_grants, grants);
-    changed_bytes(MEMORY, 0, was_memory, memory);
-    io::write_all(1, b"\n");
+    let after = lend(out, asked, numbers, marks, rights, grants, memory, block)?;
+    keep_registers(out, numbers, after)?;
+    changed_bytes(out, MARKS, 0, was_marks, marks)?;
+    changed_bytes(out, RIGHTS, m, was_rights, rights)?;
+    changed_grants(out, m, was_grants, grants)?;
+    changed_bytes(out, MEMORY, 0, was_memory, memory)?;
+    writeln!(out)
 }
 
 // Makes a row's call, and writes its line.
-pub fn run_case(
+pub fn run_case<W: Write>(
+    out: &mut W,
     case: u32,
     row: [u32; 9],
     numbers: &mut [u32],
@@ -68,7 +73,7 @@ pub fn run_case(
     grants: &mut [u16],
     memory: &mut [u8],
     block: &[u8],
-) {
+) -> io::Result<()> {
     let mut was_marks = [0u8; 257];
     let mut was_rights = [0u8; 8481];
     let mut was_grants = [0u16; 8481];
@@ -78,6 +83,7 @@ pub fn run_case(
     copy_grants(&mut was_grants, grants);
     copy_bytes(&mut was_memory, memory);
     answered(
+        out,
         case,
         row,
         numbers,
@@ -90,5 +96,5 @@ pub fn run_case(
         &was_rights,
         &was_grants,
         &was_memory,
-    );
+    )
 }

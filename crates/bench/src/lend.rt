@@ -5,6 +5,8 @@ use crate::call::{Asked, perform};
 use crate::set::{LASTS_AT, LENT_AT, NUMBERS, OFFSETS_AT, PASSED_AT, ROOM, number_at};
 use crate::words::*;
 use rules::Registers;
+use std::io;
+use std::io::Write;
 
 // The smaller of two lengths.
 pub fn least(a: usize, b: usize) -> usize
@@ -61,7 +63,8 @@ pub fn asked_by(row: [u32; 9], numbers: &[u32]) -> Asked {
 
 // Lends the lists as the numbers say, and makes the call; the registers afterwards. The first test always fails, and spares
 // every caller a `requires`.
-pub fn lend(
+pub fn lend<W: Write>(
+    out: &mut W,
     asked: Asked,
     numbers: &[u32],
     marks: &mut [u8],
@@ -69,9 +72,9 @@ pub fn lend(
     grants: &mut [u16],
     memory: &mut [u8],
     block: &[u8],
-) -> Registers {
+) -> io::Result<Registers> {
     if numbers.len() < NUMBERS {
-        return asked.registers;
+        return Ok(asked.registers);
     }
     let n = passed(numbers, N) as usize;
     let nm = entries(n, asked.m);
@@ -83,6 +86,7 @@ pub fn lend(
     let of_grants = lent(nm, how(numbers, GRANTS), grants.len());
     let bytes = lent(passed(numbers, L) as usize, 0, memory.len());
     perform(
+        out,
         asked,
         &numbers[0..first],
         &numbers[LASTS_AT..last],

@@ -3,6 +3,8 @@ ghost use Rattle.std.specs.Prelude.{◌≤◌};
 
 use crate::show::no_such_entry;
 use crate::words::*;
+use std::io;
+use std::io::Write;
 
 // How many entries there is room for in first, last and offset: one more than the largest tables have.
 pub const ROOM: usize = 257;
@@ -24,35 +26,45 @@ pub fn number_at(list: &[u32], index: usize) -> u32 {
     if index < list.len() { list[index] } else { 0 }
 }
 
-pub fn put_number(list: &mut [u32], index: usize, value: u32) {
+pub fn put_number<W: Write>(
+    out: &mut W,
+    list: &mut [u32],
+    index: usize,
+    value: u32,
+) -> io::Result<()> {
     if index < list.len() {
         list[index] = value;
+        Ok(())
     } else {
-        no_such_entry();
+        no_such_entry(out)
     }
 }
 
-pub fn put_byte(list: &mut [u8], index: usize, value: u32) {
-    if value < 256 {
-        if index < list.len() {
-            list[index] = value as u8;
-        } else {
-            no_such_entry();
-        }
+pub fn put_byte<W: Write>(
+    out: &mut W,
+    list: &mut [u8],
+    index: usize,
+    value: u32,
+) -> io::Result<()> {
+    if value < 256 && index < list.len() {
+        list[index] = value as u8;
+        Ok(())
     } else {
-        no_such_entry();
+        no_such_entry(out)
     }
 }
 
-pub fn put_grant(list: &mut [u16], index: usize, value: u32) {
-    if value < 65536 {
-        if index < list.len() {
-            list[index] = value as u16;
-        } else {
-            no_such_entry();
-        }
+pub fn put_grant<W: Write>(
+    out: &mut W,
+    list: &mut [u16],
+    index: usize,
+    value: u32,
+) -> io::Result<()> {
+    if value < 65536 && index < list.len() {
+        list[index] = value as u16;
+        Ok(())
     } else {
-        no_such_entry();
+        no_such_entry(out)
     }
 }
 
@@ -88,16 +100,23 @@ fn room_of(list: u32) -> usize
     }
 }
 
-fn set_number(list: u32, index: usize, value: u32, numbers: &mut [u32]) {
+fn set_number<W: Write>(
+    out: &mut W,
+    list: u32,
+    index: usize,
+    value: u32,
+    numbers: &mut [u32],
+) -> io::Result<()> {
     if index < room_of(list) {
-        put_number(numbers, start_of(list) + index, value);
+        put_number(out, numbers, start_of(list) + index, value)
     } else {
-        no_such_entry();
+        no_such_entry(out)
     }
 }
 
 // The entry `index` of `list` becomes `value`.
-pub fn set(
+pub fn set<W: Write>(
+    out: &mut W,
     list: u32,
     index: u32,
     value: u32,
@@ -106,17 +125,14 @@ pub fn set(
     rights: &mut [u8],
     grants: &mut [u16],
     memory: &mut [u8],
-) {
+) -> io::Result<()> {
     let at = index as usize;
-    if list == MARKS {
-        put_byte(marks, at, value);
-    } else if list == RIGHTS {
-        put_byte(rights, at, value);
-    } else if list == GRANTS {
-        put_grant(grants, at, value);
-    } else if list == MEMORY {
-        put_byte(memory, at, value);
-    } else if list != NONE {
-        set_number(list, at, value, numbers);
+    match list {
+        MARKS => put_byte(out, marks, at, value),
+        RIGHTS => put_byte(out, rights, at, value),
+        GRANTS => put_grant(out, grants, at, value),
+        MEMORY => put_byte(out, memory, at, value),
+        NONE => Ok(()),
+        _ => set_number(out, list, at, value, numbers),
     }
 }
