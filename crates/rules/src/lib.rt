@@ -148,6 +148,7 @@ fn no_operands(y: u32, z: u32) -> bool
 }
 
 // Whether `y` is a byte, and `z` unused.
+#[tactic(auto, unfolding(crate::specs::Instructions::byte_operand))]
 fn byte_operand(y: u32, z: u32) -> bool
     ensures { result ≡ byte_operand y z }
 {
@@ -165,6 +166,7 @@ fn division_operand(m: u32, y: u32, z: u32) -> bool
 }
 
 // Whether `y` is a set of rights, none included, and `z` unused.
+#[tactic(auto, unfolding(crate::specs::Instructions::rights_operand))]
 fn rights_operand(y: u32, z: u32) -> bool
     ensures { result ≡ rights_operand y z }
 {
@@ -175,6 +177,7 @@ fn rights_operand(y: u32, z: u32) -> bool
 }
 
 // Whether `y` is one of `m` divisions but `d`, and `z` some rights.
+#[tactic(auto, unfolding(crate::specs::Instructions::grant_operands))]
 fn grant_operands(m: u32, d: u32, y: u32, z: u32) -> bool
     ensures { result ≡ grant_operands m d y z }
 {

@@ -76,6 +76,7 @@ fn fields_at(s: &[u8], at: usize, k: usize) -> Row
 }
 
 // The line of a keyword and k numbers at a place. A row holds five, so no line of more is right.
+#[tactic(auto, using(crate::proofs::Lines::row_too_many, crate::proofs::Lines::row_fields, crate::proofs::Lines::row_no_word))]
 pub fn row_at(s: &[u8], at: usize, word: &[u8], k: usize) -> Row
     ensures { result ≡ row_at s.now at word.now k }
 {

@@ -41,6 +41,7 @@ fn shift(v: u64, c: u16) -> u64
 }
 
 // The run of digits at a place, which may be empty.
+#[tactic(auto, using(crate::proofs::Digits::run_ends_below, crate::proofs::Digits::run_ends_above, crate::proofs::Digits::run_inside, crate::proofs::Digits::run_starts))]
 fn run_at(s: &[u8], at: usize) -> Run
     ensures value { result.value ≡ min (value_from 0 (drop at s.now)) 4294967296 }
     ensures next { result.next ≡ at + digits_in (drop at s.now) }
@@ -61,6 +62,7 @@ fn run_at(s: &[u8], at: usize) -> Run
 }
 
 // The number at a place. It goes as far as there are digits: what may stand behind it is for the caller to test.
+#[tactic(auto, using(crate::proofs::Numbers::number_large, crate::proofs::Numbers::number_plain, crate::proofs::Numbers::number_zero, crate::proofs::Numbers::number_padded, crate::proofs::Numbers::number_empty))]
 pub fn number_at(s: &[u8], at: usize) -> Field
     ensures { result ≡ number_at s.now at }
 {

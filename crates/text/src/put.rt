@@ -14,6 +14,7 @@ fn has_room(at: usize, n: usize, len: usize) -> bool
 
 // Whether a line can be written: a word of so many bytes, at most five numbers, to each a tab and ten digits, and the
 // line feed.
+#[tactic(auto, using(crate::proofs::Room::row_room_many, crate::proofs::Room::row_room_fields, crate::proofs::Room::row_room_no_word, crate::proofs::Room::room_for))]
 fn row_has_room(at: usize, word: usize, k: usize, len: usize) -> bool
     ensures { result ≡ (leb k 5 && leb (at + (word + 11 * k + 1)) len) }
 {
