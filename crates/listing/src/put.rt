@@ -75,6 +75,7 @@ fn wide_entry(x: u16) -> u32
     x as u32
 }
 
+#[tactic(auto, unfolding(crate::specs::Output::right_line))]
 fn put_right(out: &mut [u8], at: usize, m: usize, rights: &[u8], e: usize) -> usize
     requires { (1 ≤ m) × (m ≤ 32) × (e ≤ 8191) × (e + 1 ≤ length rights.now) × (at + 39 ≤ length out.old) }
     ensures puts { Puts out at (right_line m rights.now e) result }

@@ -3,8 +3,7 @@ use lib.ListN.{length}
 use native.Mathlib.Omega.{arith}
 use native.Mathlib.Nat.{div-le_self, mod-lt}
 use Rattle.listing.specs.Words.{right_word}
-use Rattle.text.proofs.Writing.{put_nothing}
-use Rattle.listing.proofs.Written.{row_put, right_short, no_right, some_right}
+use Rattle.listing.proofs.Written.{row_put, right_short, some_right}
 use Rattle.listing.proofs.put.put_right.Goals as goal
 use Rattle.listing.proofs.put.put_right.Goals.{Start}
 
@@ -14,14 +13,6 @@ cell_small c = omega (arith, div-le_self c.args.e c.args.m, c.requires.2)
 
 division_small : (c : Start) → c.args.e % c.args.m < 100
 division_small c = omega (arith, mod-lt c.args.e c.requires.0, c.requires.1)
-
-pub returns-then-h-eq0 : goal.returns-then-h-eq0
-returns-then-h-eq0 c =
-    let a = c.args in
-    record {
-      puts = rw (no_right a.m a.rights.now a.e _ c.wide-h.ensures.0 c.if-h-eq0.true) (put_nothing _ _);
-      ends = omega arith;
-    }
 
 pub overflow_cast-e : goal.overflow_cast-e
 overflow_cast-e c = let s = (goal.at.overflow_cast-e c).Start in
@@ -39,6 +30,6 @@ returns c =
     let room : a.at + 39 ≤ length a.out.now = c.requires.4 in
     let p = row_put right_word _ 3 (omega arith) room c.put_row.ensures.puts in
     record {
-      puts = rw (some_right a.m a.rights.now a.e _ h.0 c.if-h-eq0.false) p;
+      puts = rw (some_right a.m a.rights.now a.e _ h.0 (λ z. absurd (omega arith))) p;
       ends = right_short _ _ _ (cell_small s) (division_small s) (omega (arith, h.1)) p;
     }

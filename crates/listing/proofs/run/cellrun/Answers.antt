@@ -13,7 +13,7 @@ use Rattle.listing.proofs.run.cellrun.Goals.{After-head_row-head}
 -- from the size line back to the head line, to where `cells 1` was written, and to where room was found
 -- where the head was read, the text is within its bound
 short : (c : After-head_row-head) → length c.args.s.now ≤ 65536
-short c = omega (arith, c.if-s-gt65536.false)
+short c = omega arith
 
 pub returns-then-out-lt-ROOM : goal.returns-then-out-lt-ROOM
 returns-then-out-lt-ROOM c =

@@ -1,5 +1,6 @@
 -- The cell is found, the instruction judged on it and applied: each return is one law of `Stepping`.
 use mathlib.Core.Path.{◌∙◌}
+use native.Mathlib.Omega.{arith}
 use Rattle.rules.specs.Numbers.{State, state, tables}
 use Rattle.rules.specs.Instructions.{address_of}
 use Rattle.monitor.proofs.Readiness.{cells_rise}
@@ -45,7 +46,7 @@ apply-requires c =
     let s = (goal.at.apply-requires c).Start in
     record {
       ready = record { begun = c.requires.begun; range = c.requires.in_range; cell = (found here).cell };
-      all_hold = needs_hold (st s) c.args.i _ _ (found here) c.judge-n.ensures c.if-n-eq0.true;
+      all_hold = needs_hold (st s) c.args.i _ _ (found here) c.judge-n.ensures (omega arith);
     }
 
 pub returns-in-Nowhere : goal.returns-in-Nowhere
