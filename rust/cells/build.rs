@@ -2,6 +2,6 @@
 
 fn main() {
     let here = std::env::var("CARGO_MANIFEST_DIR").unwrap();
-    println!("cargo:rustc-link-search=native={here}/../../target/staticlib");
-    println!("cargo:rerun-if-changed={here}/../../target/staticlib/libcells.a");
+    println!("cargo:rustc-link-search=native={here}/../../crates/cells/out");
+    println!("cargo:rerun-if-changed={here}/../../crates/cells/out/libcells.a");
 }

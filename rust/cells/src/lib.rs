@@ -1,5 +1,5 @@
 //! The proved library's calls, as include/cells.h declares them, behind safe functions. The static library must have been
-//! built before: `rt staticlib cells`.
+//! built before: `rt lib` in crates/cells.
 
 /// One core's registers, laid out as include/cells.h has them.
 #[repr(C)]

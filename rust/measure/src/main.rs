@@ -12,7 +12,7 @@ use std::path::Path;
 use std::process::ExitCode;
 
 fn main() -> ExitCode {
-    let ours = std::env::args().nth(1).unwrap_or_else(|| "target/bin/cellrun".to_string());
+    let ours = std::env::args().nth(1).unwrap_or_else(|| "crates/cellrun/out/cellrun".to_string());
     println!("Full tables: 256 cells, 32 divisions, 65,536 bytes of memory. Every single call makes every check.");
     clock::measure(calls::rows(), 20, 40);
     let rust = std::env::current_exe().map(|path| path.with_file_name("quick-cellrun"));
