@@ -19,6 +19,7 @@ pub enum Located {
 
 // Whether `n` bytes from `x` on do not run past `last`. The sum cannot wrap: it has 64 bits, and is made only for a block
 // of no more bytes than there are addresses.
+#[tactic(auto, using(crate::proofs::Locating::beyond_cell), unfolding(rules::specs::Blocks::within_cell))]
 pub fn within_cell(last: u32, x: u32, n: usize) -> bool
     ensures { result ≡ within_cell last x n }
 {
