@@ -16,7 +16,7 @@ use begin::begin;
 use case::run_case;
 use set::{NUMBERS, set};
 use std::io;
-use std::io::{BufWriter, Write};
+use std::io::Write;
 use words::{END, NONE};
 
 // Bounds on the tables, and on the rows of one: each ends where it says so, far below.
@@ -123,15 +123,13 @@ fn main(rt: HostRuntime) -> io::Result<()> {
     let mut memory = [0u8; 65537];
     let mut block = [0u8; 65537];
     fill(&mut block);
-    let mut out = BufWriter::new(rt.alloc(), io::writer(&rt))?;
     run(
-        &mut out,
+        &mut rt.stdout(),
         &mut numbers,
         &mut marks,
         &mut rights,
         &mut grants,
         &mut memory,
         &block,
-    )?;
-    out.flush()
+    )
 }

@@ -1,3 +1,3 @@
--- What `read_listing` and `write_output` need beside what Rattle finds.
+-- What `read_listing`, `run` and `write_output` need beside what Rattle finds.
 mod Known
 mod Written

@@ -1,8 +1,11 @@
--- What was read behind nothing is what `take` lets through.
-use Rattle.cellrun.proofs.Known.{first_known}
+-- What a read gives comes behind what was read before.
+use Rattle.std.proofs.Common.{rules, length-take-le}
+use Rattle.cellrun.proofs.Known.{read_on}
 use Rattle.cellrun.proofs.read_listing.Goals as goal
 
-pub returns : goal.returns
-returns g c =
-    first_known (g.R.Read.remaining c.args.input) 65537 c.new-text.result.items c.read_to_end.new.buf.items c.new-text.ensures.items
-    (rw (c.take.ensures.limit, c.take.ensures.inner) at c.in_ok-read_to_end.ensures.bytes)
+pub loop-n-preserved : goal.loop-n-preserved
+loop-n-preserved g c = record {
+  within = search rules;
+  read = read_on _ _ _ _ _ _ _ _ (length-take-le c.loop-n.n c.loop-n.text c.loop-n.invariant.within) c.in_ok-part.ensures.bound.0
+      c.loop-n.invariant.read c.in_ok-part.ensures.bytes.0;
+}
