@@ -1,0 +1,5 @@
+-- The call that is exported ensures it, word for word.
+use Rattle.cells.proofs.cells_execute.Goals as goal
+
+pub returns : goal.returns
+returns c = c.execute.ensures
