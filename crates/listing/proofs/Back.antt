@@ -187,11 +187,11 @@ tables_back t r s rest at well sound f g h d no-right-line no-grant-line =
     let d₁ = behind s at c (x ++ (y ++ rest)) d₀ in
     let d₂ = behind s (at + length c) x (y ++ rest) d₁ in
     let core = core_back r s (x ++ (y ++ rest)) at f g h d₀ in
-    let no-right-here =
+    let no_right_here =
     grants_no_right (N t) m s rest t.grants (length t.grants) 0 (at + length c + length x) d₂ (rw end no-right-line) in
     let rights =
     rights_back (N t) m b.some b.divisions b.cells s (y ++ rest) (at + length c) t.rights sizes.rights_long
-    (λ e. sound_right t sizes (all_sound t sound) e) d₁ no-right-here in
+    (λ e. sound_right t sizes (all_sound t sound) e) d₁ no_right_here in
     let grants =
     grants_back (N t) m b.some b.divisions b.cells s rest (at + length c + length x) t.grants sizes.grants_long
     (λ e. grant_sound t sizes (all_sound t sound) e) d₂ (rw end no-grant-line) in

@@ -2,19 +2,10 @@
 use Prim.Native.Nat.{◌≤◌, ◌*◌}
 use native.Mathlib.Omega.{arith}
 use lib.ListN.{length}
-use Rattle.rules.specs.Numbers.{State, state, tables}
 use Rattle.monitor.proofs.Beginning.{first_begun}
 use Rattle.monitor.proofs.Running.{room_whole, room_numbers, room_values, ran_as, refused_ran}
 use Rattle.monitor.proofs.execute_all.Goals as goal
 use Rattle.monitor.proofs.execute_all.Goals.{After-begin-begun, Start}
-
--- where the room is counted, and the function's entry, from where checks 1, 2 and 3 have answered
-abbrev st : Start → State
-st c =
-    state
-    (tables c.args.m c.args.first.now c.args.last.now c.args.offset.now c.args.marks.now c.args.rights.now
-    c.args.grants.now c.args.memory.now)
-    c.args.registers
 
 -- the three lists lent beside the tables are long enough for the count
 record Room (c : After-begin-begun) : Type 0 where
@@ -38,7 +29,7 @@ run_list-requires c =
     let checked = (goal.at.run_list-requires c).After-begin-begun in
     let r = room checked in
     record {
-      begun = first_begun (st ((goal.at.run_list-requires c).Start)) _ c.begin-begun.ensures c.if-n-eq0.true;
+      begun = first_begun _ _ c.begin-begun.ensures c.if-n-eq0.true;
       room = (r.whole, (r.numbered, r.valued));
     }
 
@@ -54,13 +45,11 @@ fill-requires-else-n-eq0 c =
 
 pub returns-then-n-eq0 : goal.returns-then-n-eq0
 returns-then-n-eq0 c =
-    let s = (goal.at.returns-then-n-eq0 c).Start in
     let l = c.args.instructions.now in
-    ran_as (st s) l c.args.numbers.now c.args.values.now c.room_for-count.ensures c.run_list.ensures
+    ran_as _ l c.args.numbers.now c.args.values.now c.room_for-count.ensures c.run_list.ensures
 
 pub returns-else-n-eq0 : goal.returns-else-n-eq0
 returns-else-n-eq0 c =
-    let s = (goal.at.returns-else-n-eq0 c).Start in
     let l = c.args.instructions.now in
-    ran_as (st s) l c.args.numbers.now c.args.values.now c.room_for-count.ensures
-    (refused_ran (st s) _ c.begin-begun.ensures c.if-n-eq0.false l _ c.args.numbers.now c.args.values.now c.fill.ensures c.fill-else-n-eq0.ensures)
+    ran_as _ l c.args.numbers.now c.args.values.now c.room_for-count.ensures
+    (refused_ran _ _ c.begin-begun.ensures c.if-n-eq0.false l _ c.args.numbers.now c.args.values.now c.fill.ensures c.fill-else-n-eq0.ensures)

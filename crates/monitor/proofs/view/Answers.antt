@@ -5,16 +5,9 @@ use Rattle.monitor.proofs.Locating.{BlockAt, block_at, view_refuse, read_view_do
 use Rattle.monitor.proofs.view.Goals as goal
 use Rattle.monitor.proofs.view.Goals.{In-At, Start}
 
-abbrev st : Start → State
+-- what was lent, and the registers
+abbrev st : In-At → State
 st c =
-    state
-    (tables c.args.m c.args.first.now c.args.last.now c.args.offset.now c.args.marks.now c.args.rights.now
-    c.args.grants.now c.args.memory.now)
-    c.args.registers
-
--- the same at a later place
-abbrev st_at : In-At → State
-st_at c =
     state
     (tables c.args.m c.args.first.now c.args.last.now c.args.offset.now c.args.marks.now c.args.rights.now
     c.args.grants.now c.args.memory.now)
@@ -22,27 +15,24 @@ st_at c =
 
 -- where a place was told
 block : (c : In-At)
-    → BlockAt read (st_at c) c.args.x c.args.n c.in-At.place
+    → BlockAt read (st c) c.args.x c.args.n c.in-At.place
 block c =
     let a = c.args in
-    block_at read (st_at c) a.x a.n _ c.place_block-located.ensures _ c.in-At.is
+    block_at read (st c) a.x a.n _ c.place_block-located.ensures _ c.in-At.is
 
 pub overflow_add-end : goal.overflow_add-end
 overflow_add-end c =
-    let located = c in
-    omega (arith, (block located).inside, (block located).few)
+    omega (arith, (block c).inside, (block c).few)
 
 pub slice_bounds-result-end-in-At : goal.slice_bounds-result-end-in-At
 slice_bounds-result-end-in-At c =
-    let located = c in
-    (block located).inside
+    (block c).inside
 
 pub returns-in-Refused : goal.returns-in-Refused
 returns-in-Refused c =
-    let s = (goal.at.returns-in-Refused c).Start in
     let a = c.args in
-    let e = viewed_refused (st s) a.x a.n _ _ c.place_block-located.ensures c.in-Refused.is in
-    let f = view_refuse (st s) a.x a.n _ _ c.place_block-located.ensures c.in-Refused.is in
+    let e = viewed_refused _ a.x a.n _ _ c.place_block-located.ensures c.in-Refused.is in
+    let f = view_refuse _ a.x a.n _ _ c.place_block-located.ensures c.in-Refused.is in
     λ i. part_of_lent a.memory (e i).start (f i).part
 
 pub returns-in-At : goal.returns-in-At

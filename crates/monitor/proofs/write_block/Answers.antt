@@ -1,5 +1,3 @@
-use Prim.Native.Nat.{ℕ}
-use mathlib.Core.List.{List}
 use native.Mathlib.Omega.{arith}
 use lib.ListN.{length}
 use Rattle.rules.specs.Numbers.{State, state, write, tables}
@@ -7,19 +5,9 @@ use Rattle.monitor.proofs.Locating.{BlockAt, write_refuse, block_at, block_write
 use Rattle.monitor.proofs.write_block.Goals as goal
 use Rattle.monitor.proofs.write_block.Goals.{In-At, Start}
 
-abbrev st : Start → State
+-- what was lent, and the registers
+abbrev st : In-At → State
 st c =
-    state
-    (tables c.args.m c.args.first.now c.args.last.now c.args.offset.now c.args.marks.now c.args.rights.now
-    c.args.grants.now c.args.memory.now)
-    c.args.registers
-
-abbrev bytes : Start → List ℕ
-bytes c = c.args.bytes.now
-
--- the same at a later place
-abbrev st_at : In-At → State
-st_at c =
     state
     (tables c.args.m c.args.first.now c.args.last.now c.args.offset.now c.args.marks.now c.args.rights.now
     c.args.grants.now c.args.memory.now)
@@ -27,26 +15,23 @@ st_at c =
 
 -- where a place was told
 block : (c : In-At)
-    → BlockAt write (st_at c) c.args.x (length ((c.args.bytes.now))) c.in-At.place
+    → BlockAt write (st c) c.args.x (length c.args.bytes.now) c.in-At.place
 block c =
-    block_at write (st_at c) c.args.x (length ((c.args.bytes.now))) _ c.place_block-located.ensures _ c.in-At.is
+    block_at write (st c) c.args.x (length c.args.bytes.now) _ c.place_block-located.ensures _ c.in-At.is
 
 pub overflow_add-end : goal.overflow_add-end
 overflow_add-end c =
-    let at = c in
-    omega (arith, (block at).inside, (block at).few)
+    omega (arith, (block c).inside, (block c).few)
 
 pub slice_bounds-copy_into-end : goal.slice_bounds-copy_into-end
 slice_bounds-copy_into-end c =
-    let at = c in
-    (block at).inside
+    (block c).inside
 
 pub returns-in-Refused : goal.returns-in-Refused
 returns-in-Refused c =
-    let s = (goal.at.returns-in-Refused c).Start in
-    rw c.refuse.ensures (write_refuse (st s) c.args.x (bytes s) _ _ c.place_block-located.ensures c.in-Refused.is)
+    rw c.refuse.ensures (write_refuse _ c.args.x c.args.bytes.now _ _ c.place_block-located.ensures c.in-Refused.is)
 
 pub returns-in-At : goal.returns-in-At
 returns-in-At c =
     let at = (goal.at.returns-in-At c).In-At in
-    rw c.accept.ensures (block_write_done (st ((goal.at.returns-in-At c).Start)) _ _ _ _ c.copy_into.ensures (block at))
+    rw c.accept.ensures (block_write_done _ _ _ _ _ c.copy_into.ensures (block at))

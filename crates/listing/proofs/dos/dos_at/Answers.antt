@@ -6,7 +6,6 @@ use Rattle.listing.proofs.Loops.{dos_none, do_room, dos_more, dos_stop, dos_full
 use Rattle.listing.proofs.dos.dos_at.Goals as goal
 use Rattle.listing.proofs.dos.dos_at.Goals.{Else-not-r}
 
--- where the loop's turn begins
 -- where a do line stands, there is room for its four numbers
 room : (c : Else-not-r) → 4 * c.loop-n.n + 3 < length c.loop-n.list
 room c =

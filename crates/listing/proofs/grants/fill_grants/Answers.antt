@@ -11,7 +11,6 @@ use Rattle.listing.proofs.Loops.{entries_none, entries_more, entries_stop, entri
 use Rattle.listing.proofs.grants.fill_grants.Goals as goal
 use Rattle.listing.proofs.grants.fill_grants.Goals.{Else-not-rises}
 
--- where the loop's turn begins, and where its line was read
 -- the entry that a line names lies in the list
 inside : (c : Else-not-rises) → c.grant_at-e.result.key < length c.loop-k.list
 inside c =

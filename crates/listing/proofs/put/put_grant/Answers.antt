@@ -24,11 +24,13 @@ returns-then-g-eq0 c =
     }
 
 pub overflow_cast-e : goal.overflow_cast-e
-overflow_cast-e c = let s = (goal.at.overflow_cast-e c).Start in
+overflow_cast-e c =
+    let s = (goal.at.overflow_cast-e c).Start in
     omega (arith, cell_small s)
 
 pub overflow_cast-e-2 : goal.overflow_cast-e-2
-overflow_cast-e-2 c = let s = (goal.at.overflow_cast-e-2 c).Start in
+overflow_cast-e-2 c =
+    let s = (goal.at.overflow_cast-e-2 c).Start in
     omega (arith, division_small s)
 
 pub returns : goal.returns

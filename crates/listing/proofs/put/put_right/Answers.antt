@@ -15,11 +15,13 @@ division_small : (c : Start) → c.args.e % c.args.m < 100
 division_small c = omega (arith, mod-lt c.args.e c.requires.0, c.requires.1)
 
 pub overflow_cast-e : goal.overflow_cast-e
-overflow_cast-e c = let s = (goal.at.overflow_cast-e c).Start in
+overflow_cast-e c =
+    let s = (goal.at.overflow_cast-e c).Start in
     omega (arith, cell_small s)
 
 pub overflow_cast-e-2 : goal.overflow_cast-e-2
-overflow_cast-e-2 c = let s = (goal.at.overflow_cast-e-2 c).Start in
+overflow_cast-e-2 c =
+    let s = (goal.at.overflow_cast-e-2 c).Start in
     omega (arith, division_small s)
 
 pub returns : goal.returns

@@ -10,7 +10,6 @@ use Rattle.listing.proofs.Whole.{ends_inside, nothing_written, text_long, head_w
 use Rattle.listing.proofs.run.cellrun.Goals as goal
 use Rattle.listing.proofs.run.cellrun.Goals.{After-head_row-head}
 
--- from the size line back to the head line, to where `cells 1` was written, and to where room was found
 -- where the head was read, the text is within its bound
 short : (c : After-head_row-head) → length c.args.s.now ≤ 65536
 short c = omega arith

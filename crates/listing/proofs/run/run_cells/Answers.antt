@@ -8,13 +8,13 @@ use Rattle.listing.proofs.Whole.{zeros_part, part_long}
 use Rattle.listing.proofs.run.run_cells.Goals as goal
 use Rattle.listing.proofs.run.run_cells.Goals.{After-cells_at-cells}
 
--- from where the rest was run back to where the cell lines were read, and to the start
 -- as many entries as there are cells and divisions
 entries : (c : After-cells_at-cells) → c.cells_at-cells.result.count * c.args.m ≤ 8192
 entries c = product_small _ _ c.cells_at-cells.ensures.few c.requires.1
 
 pub overflow_mul-entries : goal.overflow_mul-entries
-overflow_mul-entries c = let k = (goal.at.overflow_mul-entries c).After-cells_at-cells in
+overflow_mul-entries c =
+    let k = (goal.at.overflow_mul-entries c).After-cells_at-cells in
     omega (arith, entries k)
 
 pub slice_bounds-run_rights-end : goal.slice_bounds-run_rights-end
@@ -34,7 +34,8 @@ slice_bounds-run_rights-end-4 c =
     sym (length-take-le _ _ (omega (arith, c.cells_at-cells.ensures.few, c.cells_at-cells.auto.marks)))
 
 pub slice_bounds-rights-end : goal.slice_bounds-rights-end
-slice_bounds-rights-end c = let k = (goal.at.slice_bounds-rights-end c).After-cells_at-cells in
+slice_bounds-rights-end c =
+    let k = (goal.at.slice_bounds-rights-end c).After-cells_at-cells in
     omega (arith, entries k)
 
 pub slice_bounds-run_rights-end-5 : goal.slice_bounds-run_rights-end-5
@@ -43,7 +44,8 @@ slice_bounds-run_rights-end-5 c =
     rw c.no_rights-rights.ensures (part_long _ 8192 (entries k))
 
 pub slice_bounds-grants-end : goal.slice_bounds-grants-end
-slice_bounds-grants-end c = let k = (goal.at.slice_bounds-grants-end c).After-cells_at-cells in
+slice_bounds-grants-end c =
+    let k = (goal.at.slice_bounds-grants-end c).After-cells_at-cells in
     omega (arith, entries k)
 
 pub slice_bounds-run_rights-end-6 : goal.slice_bounds-run_rights-end-6

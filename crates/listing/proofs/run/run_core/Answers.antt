@@ -4,7 +4,6 @@ use native.Mathlib.Omega.{arith}
 use lib.ListN.{length, take}
 use lib.Seq.{length-take-le}
 use borrow.Author.Tests.{not-true, not-false}
-use Rattle.rules.specs.Numbers.{Tables, tables}
 use Rattle.text.specs.declared.line.Row.{Row}
 use Rattle.listing.specs.Lines.{core_row}
 use Rattle.listing.specs.Listing.{Dos}
@@ -12,13 +11,6 @@ use Rattle.listing.proofs.Whole.{core_wrong, dos_wrong, dos_right}
 use Rattle.listing.proofs.run.run_core.Goals as goal
 use Rattle.listing.proofs.run.run_core.Goals.{After-dos_at-dos, Start}
 
--- the tables, which stand behind the text, the place and the line
-abbrev lent : Start → Tables
-lent c =
-    tables c.args.m c.args.first.now c.args.last.now c.args.offset.now c.args.marks.now c.args.rights.now
-    c.args.grants.now c.args.memory.now
-
--- from where the instructions were run back to where the text ended, to the do lines, to the core line, and to the start
 -- the do lines that `dos_at` answered and left
 abbrev done : After-dos_at-dos → Dos
 done c =
@@ -35,22 +27,20 @@ inside c =
 
 pub returns-then-not-core : goal.returns-then-not-core
 returns-then-not-core c =
-    let s = (goal.at.returns-then-not-core c).Start in
     let a = c.args in
     let wrong = ap (λ (r : Row). r.ok) (sym c.core_row-core.ensures) ∙ not-true _ c.if-not-core.true in
     record {
-      puts = rw (← core_wrong a.s.now a.line (lent s) (core_row a.s.now a.next) wrong) c.put_bad.ensures.puts;
+      puts = rw (← core_wrong a.s.now a.line _ (core_row a.s.now a.next) wrong) c.put_bad.ensures.puts;
       ends = omega (arith, c.put_bad.ensures.ends, c.requires.6.head);
     }
 
 pub returns-then-dos-s : goal.returns-then-dos-s
 returns-then-dos-s c =
     let dos = (goal.at.returns-then-dos-s c).After-dos_at-dos in
-    let s = (goal.at.returns-then-dos-s c).Start in
     record {
       puts = rw (
         ← c.core_row-core.ensures,
-        ← dos_wrong c.args.s.now c.args.line (lent s) c.core_row-core.result (not-false _ c.if-not-core.false) (done dos)
+        ← dos_wrong c.args.s.now c.args.line _ c.core_row-core.result (not-false _ c.if-not-core.false) (done dos)
             c.dos_at-dos.ensures.value c.if-dos-s.true,
       )
           c.put_bad-then-dos-s.ensures.puts;
@@ -74,11 +64,10 @@ run_instructions-requires c =
 pub returns : goal.returns
 returns c =
     let dos = (goal.at.returns c).After-dos_at-dos in
-    let s = (goal.at.returns c).Start in
     record {
       puts = rw (
         ← c.core_row-core.ensures,
-        ← dos_right c.args.s.now c.args.line (lent s) c.core_row-core.result (not-false _ c.if-not-core.false) (done dos)
+        ← dos_right c.args.s.now c.args.line _ c.core_row-core.result (not-false _ c.if-not-core.false) (done dos)
             c.dos_at-dos.ensures.value c.if-dos-s.false,
       )
           c.run_instructions.ensures.puts;

@@ -1,16 +1,7 @@
 use native.Mathlib.Omega.{arith}
-use Rattle.rules.specs.Numbers.{State, state, tables}
 use Rattle.listing.proofs.Whole.{run_body}
 use Rattle.listing.proofs.run.run_instructions.Goals as goal
 use Rattle.listing.proofs.run.run_instructions.Goals.{Start}
-
--- from where the answers were put back to where the instructions were run, and to the start
-abbrev start : Start → State
-start c =
-    state
-    (tables c.args.m c.args.first.now c.args.last.now c.args.offset.now c.args.marks.now c.args.rights.now
-    c.args.grants.now c.args.memory.now)
-    c.args.registers
 
 pub put_answers-a-requires : goal.put_answers-a-requires
 put_answers-a-requires c =
@@ -36,14 +27,13 @@ put_state-requires c =
 
 pub returns : goal.returns
 returns c =
-    let s = (goal.at.returns c).Start in
     let asked = c.requires in
     let a = c.args in
     let e = c.execute_all-after in
     let p = c.put_answers-a.ensures in
     let q = c.put_state.ensures in
     record {
-      puts = run_body (start s) a.instructions.now a.count asked.sizes.4 asked.sizes.5 e.new.numbers
+      puts = run_body _ a.instructions.now a.count asked.sizes.4 asked.sizes.5 e.new.numbers
           e.new.values a.numbers.now a.values.now _ asked.answers.0 asked.answers.1 e.ensures
           p.puts q.puts;
       ends = omega (arith, p.ends, q.ends, asked.sizes.5, asked.sizes.6.head);

@@ -8,7 +8,6 @@ use Rattle.listing.proofs.Whole.{rights_read}
 use Rattle.listing.proofs.run.run_rights.Goals as goal
 use Rattle.listing.proofs.run.run_rights.Goals.{After-fill_bytes-c, Start}
 
--- from where the rest was run back to where the byte lines were read, to the grant lines, to the right lines, and to the start
 -- as many entries as there are cells and divisions
 entries : (c : Start) → length c.args.first.now * c.args.m ≤ 8192
 entries c = product_small _ _ c.requires.sizes.3 c.requires.sizes.1

@@ -4,60 +4,37 @@ use Rattle.rules.specs.Numbers.{State, state, tables}
 use Rattle.rules.specs.Instructions.{place}
 use Rattle.monitor.proofs.Readiness.{CellIn, cell_in, cells_rise, entry_in_rights}
 use Rattle.monitor.proofs.Searching.{FoundAt, found_at, nowhere_uncovered}
-use Rattle.monitor.proofs.Locating.{Judged, judged, located_nowhere, located_at, located_refused}
+use Rattle.monitor.proofs.Locating.{judged, located_nowhere, located_at, located_refused}
 use Rattle.monitor.proofs.block.locate.Goals as goal
 use Rattle.monitor.proofs.block.locate.Goals.{After-judge_whole-k, In-At, Start}
 
-abbrev st : Start → State
+-- where a cell was found
+abbrev cell : In-At → ℕ
+cell c = c.in-At.c
+
+-- what was lent, and the registers
+abbrev st : In-At → State
 st c =
     state
     (tables c.args.m c.args.first.now c.args.last.now c.args.offset.now c.args.marks.now c.args.rights.now
     c.args.grants.now c.args.memory.now)
     c.args.registers
 
--- where a cell was found
-abbrev cell : In-At → ℕ
-cell c = c.in-At.c
-
--- the same at a later place
-abbrev st_at : In-At → State
-st_at c =
-    state
-    (tables c.args.m c.args.first.now c.args.last.now c.args.offset.now c.args.marks.now c.args.rights.now
-    c.args.grants.now c.args.memory.now)
-    c.args.registers
-
-abbrev st_at_2 : After-judge_whole-k → State
-st_at_2 c =
-    state
-    (tables c.args.m c.args.first.now c.args.last.now c.args.offset.now c.args.marks.now c.args.rights.now
-    c.args.grants.now c.args.memory.now)
-    c.args.registers
-
-found : (c : In-At) → FoundAt (st_at c).lent c.args.x (cell c)
+found : (c : In-At) → FoundAt (st c).lent c.args.x (cell c)
 found c =
-    found_at (st_at c).lent _ _ c.find-f.ensures _ c.in-At.is
+    found_at (st c).lent _ _ c.find-f.ensures _ c.in-At.is
 
-inside : (c : In-At) → CellIn (st_at c).lent (cell c)
+inside : (c : In-At) → CellIn (st c).lent (cell c)
 inside c = cell_in _ c.requires.sizes _ (found c).cell.cell
-
--- where the judge has answered
-answered : (c : After-judge_whole-k)
-    → Judged c.args.needed (st_at_2 c) c.args.x
-    c.args.n c.in-At.c c.judge_whole-k.result
-answered c =
-    let s = st_at_2 c in
-    judged _ s _ _ _ _ _ _ (found_at s.lent _ _ c.find-f.ensures _ c.in-At.is) c.within_cell.ensures c.held_at-held.ensures c.judge_whole-k.ensures
 
 pub find-f-requires : goal.find-f-requires
 find-f-requires c =
-    let s = (goal.at.find-f-requires c).Start in
-    cells_rise (st s).lent c.requires.sizes c.requires.sound
+    cells_rise _ c.requires.sizes c.requires.sound
 
 pub held_at-held-requires : goal.held_at-held-requires
 held_at-held-requires c =
     let f = (goal.at.held_at-held-requires c).In-At in
-    entry_in_rights (st ((goal.at.held_at-held-requires c).Start)).lent c.requires.sizes (cell f) (found f).cell.cell _ c.requires.current
+    entry_in_rights _ c.requires.sizes (cell f) (found f).cell.cell _ c.requires.current
 
 pub bounds-marks-c : goal.bounds-marks-c
 bounds-marks-c c =
@@ -81,14 +58,17 @@ place_of-requires c =
 
 pub returns-in-Nowhere : goal.returns-in-Nowhere
 returns-in-Nowhere c =
-    let s = (goal.at.returns-in-Nowhere c).Start in
-    located_nowhere _ _ _ _ (nowhere_uncovered (st s).lent _ _ c.find-f.ensures c.in-Nowhere.is)
+    located_nowhere _ _ _ _ (nowhere_uncovered _ _ _ c.find-f.ensures c.in-Nowhere.is)
 
 pub returns-then-k-eq0 : goal.returns-then-k-eq0
 unfolding place
 returns-then-k-eq0 c =
-    let judged = (goal.at.returns-then-k-eq0 c).After-judge_whole-k in
-    located_at (answered judged) _ c.if-k-eq0.true c.place_of.ensures
+    let f = (goal.at.returns-then-k-eq0 c).In-At in
+    let answer = judged _ _ _ _ _ _ _ _ (found f) c.within_cell.ensures c.held_at-held.ensures c.judge_whole-k.ensures in
+    located_at answer _ c.if-k-eq0.true c.place_of.ensures
 
 pub returns-else-k-eq0 : goal.returns-else-k-eq0
-returns-else-k-eq0 c = located_refused (answered (goal.at.returns-else-k-eq0 c).After-judge_whole-k) c.if-k-eq0.false
+returns-else-k-eq0 c =
+    let f = (goal.at.returns-else-k-eq0 c).In-At in
+    let answer = judged _ _ _ _ _ _ _ _ (found f) c.within_cell.ensures c.held_at-held.ensures c.judge_whole-k.ensures in
+    located_refused answer c.if-k-eq0.false

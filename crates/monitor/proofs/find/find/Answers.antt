@@ -24,17 +24,17 @@ loop-i-init c = (search rules, ended_none _ _)
 
 pub overflow_add-ended : goal.overflow_add-ended
 overflow_add-ended c =
-    let in-loop = (goal.at.overflow_add-ended c).In-loop-i in
+    let in_loop = (goal.at.overflow_add-ended c).In-loop-i in
     let known = c.loop-i.invariant.1 in
     let few : c.loop-i.ended < c.args.x
-    = ended_few _ _ c.requires _ _ _ known (its_cell in-loop) c.if-last-i.true in
+    = ended_few _ _ c.requires _ _ _ known (its_cell in_loop) c.if-last-i.true in
     omega arith
 
 pub loop-i-preserved : goal.loop-i-preserved
 loop-i-preserved c =
-    let in-loop = (goal.at.loop-i-preserved c).In-loop-i in
+    let in_loop = (goal.at.loop-i-preserved c).In-loop-i in
     let known = c.loop-i.invariant.1 in
-    let h = its_cell in-loop in
+    let h = its_cell in_loop in
     let rise = c.requires in (
       omega arith,
       elim c.if-last-i.branch [

@@ -10,14 +10,14 @@ use Rattle.monitor.proofs.judge.judge.Goals as goal
 use Rattle.monitor.proofs.judge.judge.Goals.{After-held_at-held, Start}
 
 -- what was lent, and the registers
-abbrev st_at : After-held_at-held → State
-st_at c =
+abbrev st : After-held_at-held → State
+st c =
     state
     (tables c.args.m c.args.first.now c.args.last.now c.args.offset.now c.args.marks.now c.args.rights.now
     c.args.grants.now c.args.memory.now)
     c.args.registers
 
-pub ready : (c : After-held_at-held) → Ready (st_at c) c.args.i c.args.c
+pub ready : (c : After-held_at-held) → Ready (st c) c.args.i c.args.c
 ready c = c.requires
 
 pub bounds-last-c : goal.bounds-last-c

@@ -7,7 +7,6 @@ use borrow.Author.Rules.{rules}
 use Rattle.monitor.proofs.list.run_list.Goals as goal
 use Rattle.monitor.proofs.list.run_list.Goals.{After-perform-answered}
 
--- from where an instruction has been performed: where its turn began, and the function's entry
 -- its answer's entry
 entry : (c : After-perform-answered) → c.perform-answered.result.position - 1 ≡ c.loop-k.k
 entry c = omega (arith, position_told c.perform-answered.ensures)

@@ -9,62 +9,49 @@ use Rattle.monitor.proofs.Stepping.{found_for, found_nothing, stepped_nowhere, s
 use Rattle.monitor.proofs.step.step.Goals as goal
 use Rattle.monitor.proofs.step.step.Goals.{In-At, Start}
 
-abbrev st : Start → State
+-- what was lent, and the registers
+abbrev st : In-At → State
 st c =
     state
     (tables c.args.m c.args.first.now c.args.last.now c.args.offset.now c.args.marks.now c.args.rights.now
     c.args.grants.now c.args.memory.now)
     c.args.registers
 
--- the same at a later place
-abbrev st_at : In-At → State
-st_at c =
-    state
-    (tables c.args.m c.args.first.now c.args.last.now c.args.offset.now c.args.marks.now c.args.rights.now
-    c.args.grants.now c.args.memory.now)
-    c.args.registers
-
 -- the entry, from where the cell is found, and from where it is judged
-found : (c : In-At) → FoundAt (st_at c).lent (address_of c.args.i) c.in-At.c
+found : (c : In-At) → FoundAt (st c).lent (address_of c.args.i) c.in-At.c
 found c =
-    found_for (st_at c).lent c.args.i _ _ c.address_of.ensures c.find-f.ensures
+    found_for (st c).lent c.args.i _ _ c.address_of.ensures c.find-f.ensures
     c.in-At.is
 
 pub find-f-requires : goal.find-f-requires
 find-f-requires c =
-    let s = (goal.at.find-f-requires c).Start in
-    cells_rise (st s).lent c.requires.begun.sizes c.requires.begun.sound
+    cells_rise _ c.requires.begun.sizes c.requires.begun.sound
 
 pub judge-n-requires : goal.judge-n-requires
 judge-n-requires c =
-    let here = c in
-    record { begun = c.requires.begun; range = c.requires.in_range; cell = (found here).cell }
+    record { begun = c.requires.begun; range = c.requires.in_range; cell = (found c).cell }
 
 pub apply-requires : goal.apply-requires
 apply-requires c =
     let here = (goal.at.apply-requires c).In-At in
-    let s = (goal.at.apply-requires c).Start in
     record {
       ready = record { begun = c.requires.begun; range = c.requires.in_range; cell = (found here).cell };
-      all_hold = needs_hold (st s) c.args.i _ _ (found here) c.judge-n.ensures (omega arith);
+      all_hold = needs_hold (st here) c.args.i _ _ (found here) c.judge-n.ensures (omega arith);
     }
 
 pub returns-in-Nowhere : goal.returns-in-Nowhere
 returns-in-Nowhere c =
-    let s = (goal.at.returns-in-Nowhere c).Start in
-    rw c.refuse.ensures (stepped_nowhere (st s) c.args.i
-    (found_nothing (st s).lent c.args.i _ c.address_of.ensures c.find-f.ensures c.in-Nowhere.is))
+    rw c.refuse.ensures (stepped_nowhere _ c.args.i
+    (found_nothing _ c.args.i _ c.address_of.ensures c.find-f.ensures c.in-Nowhere.is))
 
 pub returns-then-n-eq0 : goal.returns-then-n-eq0
 returns-then-n-eq0 c =
     let here = (goal.at.returns-then-n-eq0 c).In-At in
-    let s = (goal.at.returns-then-n-eq0 c).Start in
     c.apply.ensures
-    ∙ stepped_applied (st s) c.args.i _ _ (found here) c.judge-n.ensures c.if-n-eq0.true
+    ∙ stepped_applied _ c.args.i _ _ (found here) c.judge-n.ensures (omega arith)
 
 pub returns-else-n-eq0 : goal.returns-else-n-eq0
 returns-else-n-eq0 c =
     let here = (goal.at.returns-else-n-eq0 c).In-At in
-    let s = (goal.at.returns-else-n-eq0 c).Start in
     rw c.refuse-else-n-eq0.ensures
-    (stepped_refused (st s) c.args.i _ _ (found here) c.judge-n.ensures c.if-n-eq0.false)
+    (stepped_refused _ c.args.i _ _ (found here) c.judge-n.ensures (λ z. absurd (omega arith)))
