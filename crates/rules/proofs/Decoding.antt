@@ -8,9 +8,8 @@ use mathlib.Core.List.{List, [], ◌∷◌}
 use native.Mathlib.Omega.{arith}
 use lib.ListN.{get_or}
 use Rattle.rules.specs.Refusals.{no_such_instruction, bad_operand}
-use Rattle.rules.specs.Instructions.{no_operands, byte_operand, division_operand, rights_operand, grant_operands, source_operand, Formed, well_formed, ill_formed, ranged, instruction_table, formed, beside}
+use Rattle.rules.specs.Instructions.{Kind, Refused, no_operands, byte_operand, division_operand, rights_operand, grant_operands, source_operand, Formed, well_formed, ill_formed, ranged, instruction_table, formed, beside}
 use Rattle.rules.specs.declared.Placed.{Placed}
-use Rattle.rules.specs.declared.Decoded.TheVariants.{Kind, Refused}
 use Rattle.rules.specs.declared.Instruction.{Instruction}
 use Rattle.rules.specs.declared.Instruction.TheVariants.{Load, Store, Fetch, Switch, Protect, Grant, Receive, Transfer, Invalidate, Revalidate, Exclusive}
 use Rattle.rules.proofs.Checks.{Each}

@@ -5,6 +5,7 @@ pub mod Operands
 pub mod Checks
 pub mod Bench
 pub mod Decoding
+pub mod Refusing
 pub mod Order
 pub mod Sizes
 pub mod Needed

@@ -7,8 +7,7 @@ use lib.ListN.{get_or-eq_default}
 use lib.Dec.{leb, ltb, eqb}
 use borrow.Author.Tests.{leb-true, ltb-true, ltb-false, eqb-false, not-true}
 use Rattle.rules.specs.Refusals.{no_such_instruction}
-use Rattle.rules.specs.Instructions.{byte_operand, division_operand, rights_operand, grant_operands, source_operand, ill_formed, ranged, instruction_table, formed, beside, decoded}
-use Rattle.rules.specs.declared.Decoded.TheVariants.{Kind, Refused}
+use Rattle.rules.specs.Instructions.{Kind, Refused, byte_operand, division_operand, rights_operand, grant_operands, source_operand, ill_formed, ranged, instruction_table, formed, beside, decoded}
 use Rattle.rules.specs.declared.Instruction.{Instruction}
 use Rattle.rules.proofs.Below.{and_left, and_right}
 

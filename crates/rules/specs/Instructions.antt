@@ -1,11 +1,11 @@
 -- Document 01, "The eleven instructions": the operands of each, what it needs, its effect and its value.
-use Rattle.std.specs.Prelude.{ℕ, ◌+◌, ◌-◌, ◌*◌, ◌%◌, List, [], ◌∷◌, Bool, cond, not, ◌&&◌, length, get_or, set, leb, ltb, eqb}
+use Rattle.std.specs.Prelude.{ℕ, ◌+◌, ◌-◌, ◌*◌, ◌%◌, List, [], ◌∷◌, Bool, cond, not, ◌&&◌, length, get_or, set, leb, ltb, eqb, Result, Ok, Err}
 use Rattle.rules.specs.Below.{lowest}
 use Rattle.rules.specs.Numbers.{Tables, tables, N, read, write, execute, part_of, join, first_of, last_of, offset_of, mark_of, entry, held, grant_of, grant_entry, target_in, rights_in, switched}
-use Rattle.rules.specs.Refusals.{no_such_instruction, bad_operand, not_valid, not_whole, right_missing, no_grant, other_holds, not_entry, same_rights, Check, ◌unless◌}
+use Rattle.rules.specs.Refusals.{number_of, no_such_instruction, bad_operand, not_valid, not_whole, right_missing, no_grant, other_holds, not_entry, same_rights, Check, ◌unless◌}
 use Rattle.rules.specs.declared.Registers.{Registers}
-use Rattle.rules.specs.declared.Decoded.{Decoded}
-use Rattle.rules.specs.declared.Decoded.TheVariants.{Kind, Refused}
+use Rattle.rules.specs.declared.Placed.{Placed}
+use Rattle.rules.specs.declared.Refusal.{Refusal}
 use Rattle.rules.specs.declared.Instruction.{Instruction}
 use Rattle.rules.specs.declared.Instruction.TheVariants.{Load, Store, Fetch, Switch, Protect, Grant, Receive, Transfer, Invalidate, Revalidate, Exclusive}
 
@@ -58,13 +58,22 @@ instruction_table m d x y z =
 unfoldable pub formed : (m d number x y z : ℕ) → Formed
 formed m d number x y z = get_or (instruction_table m d x y z) number (ill_formed no_such_instruction)
 
--- a well-formed instruction is kept beside its listing position
+-- what four numbers stand for: an instruction kept beside its listing position, or refusal 4 or 5
+pub data Decoded : Type 0 where
+  Kind : Placed → Decoded
+  Refused : (refusal : ℕ) → Decoded
+
 abbrev pub beside : (position : ℕ) → Formed → Decoded
 beside position (well_formed i) = Kind (record { position = position; instruction = i })
 beside position (ill_formed n) = Refused n
 
 abbrev pub decoded : (m d position number x y z : ℕ) → Decoded
 decoded m d position number x y z = beside position (formed m d number x y z)
+
+-- the same of what a call hands back
+abbrev pub kept : Result Placed Refusal → Decoded
+kept (Ok p) = Kind p
+kept (Err r) = Refused (number_of r)
 
 abbrev pub address_of : Instruction → ℕ
 address_of (Load x) = x

@@ -1,7 +1,9 @@
 -- How a contract speaks of what a call is lent. A lent list is a reference, whose list `now` reads.
-use Rattle.std.specs.Prelude.{ℕ, ◌+◌, List}
+use Rattle.std.specs.Prelude.{ℕ, ◌+◌, ◌≡◌, List}
 use Rattle.std.specs.Borrow.{Bor, MutBor}
 use Rattle.rules.specs.Numbers.{Tables, tables}
+use Rattle.rules.specs.declared.Tables.{Tables as LentTables}
+use Rattle.rules.specs.declared.TablesMut.{TablesMut as LentTablesMut}
 
 -- a list that is lent for reading, and one that may be written
 abbrev pub Slice : Type 0
@@ -24,6 +26,20 @@ refers s = record { place = s.ref_ptr; list = s.now }
 -- the part of a lent list of bytes that begins at its byte a, and in which l stands; a byte takes one place
 abbrev pub part_of_lent : Slice → (a : ℕ) → List ℕ → Reference
 part_of_lent s a l = record { place = (s.ref_ptr.0, a + s.ref_ptr.1); list = l }
+
+-- ---- the tables as a call takes them, beside the memory: for reading, and where it may write marks, rights and grants
+
+abbrev pub lent : LentTables → (memory : List ℕ) → Tables
+lent t memory = tables t.m t.first.now t.last.now t.offset.now t.marks.now t.rights.now t.grants.now memory
+
+abbrev pub lent_mut : LentTablesMut → (memory : List ℕ) → Tables
+lent_mut t memory = tables t.m t.first.now t.last.now t.offset.now t.marks.now t.rights.now t.grants.now memory
+
+-- the lists that a call writes are those that it was lent: each reference keeps the name under which a proof tracks it
+pub record SameLists (before after : LentTablesMut) : Type 0 where
+  pub marks : after.marks.ghost_name ≡ before.marks.ghost_name
+  pub rights : after.rights.ghost_name ≡ before.rights.ghost_name
+  pub grants : after.grants.ghost_name ≡ before.grants.ghost_name
 
 -- ---- the arguments of a call as one tuple, as the toolchain hands them to a proof
 

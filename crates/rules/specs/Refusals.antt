@@ -1,5 +1,8 @@
 -- Document 01, "The refusal list".
-use Rattle.std.specs.Prelude.{ℕ, List, [], ◌∷◌, ◌++◌, Bool, cond, ◌&&◌, ltb, eqb}
+use Rattle.std.specs.Prelude.{ℕ, List, [], ◌∷◌, ◌++◌, Bool, cond, ◌&&◌, ltb, eqb, Result, Ok, Err}
+use Rattle.rules.specs.declared.Answer.{Answer}
+use Rattle.rules.specs.declared.Refusal.{Refusal}
+use Rattle.rules.specs.declared.Refusal.TheVariants.{OutOfBounds, Unsound, NoSuchDivision, NoSuchInstruction, BadOperand, NotCovered, NotValid, NotWhole, RightMissing, NoGrant, OtherHolds, NotEntry, SameRights}
 use Rattle.rules.specs.Numbers.{Tables, State, N, L, in_bounds, right_lengths}
 use Rattle.rules.specs.Sound.{sound_tables, lowest_unsound}
 
@@ -56,6 +59,50 @@ not_entry = 12
 -- the rights asked for equal those held
 abbrev pub same_rights : ℕ
 same_rights = 13
+
+-- the number of a refusal
+abbrev pub number_of : Refusal → ℕ
+number_of OutOfBounds = out_of_bounds
+number_of (Unsound c) = unsound
+number_of NoSuchDivision = no_such_division
+number_of NoSuchInstruction = no_such_instruction
+number_of BadOperand = bad_operand
+number_of NotCovered = not_covered
+number_of NotValid = not_valid
+number_of NotWhole = not_whole
+number_of RightMissing = right_missing
+number_of NoGrant = no_grant
+number_of OtherHolds = other_holds
+number_of NotEntry = not_entry
+number_of SameRights = same_rights
+
+-- and its value: 0, except for 2
+abbrev pub value_with : Refusal → ℕ
+value_with OutOfBounds = 0
+value_with (Unsound c) = c
+value_with NoSuchDivision = 0
+value_with NoSuchInstruction = 0
+value_with BadOperand = 0
+value_with NotCovered = 0
+value_with NotValid = 0
+value_with NotWhole = 0
+value_with RightMissing = 0
+value_with NoGrant = 0
+value_with OtherHolds = 0
+value_with NotEntry = 0
+value_with SameRights = 0
+
+abbrev pub refused_with : Refusal → Answer
+refused_with r = record { number = number_of r; value = value_with r }
+
+-- what checks answer that let pass, or name the first to fail
+abbrev pub failing : {A : Type 0} → Result A Refusal → ℕ
+failing (Ok a) = 0
+failing (Err r) = number_of r
+
+abbrev pub answer_of : {A : Type 0} → Result A Refusal → Answer
+answer_of (Ok a) = record { number = 0; value = 0 }
+answer_of (Err r) = refused_with r
 
 -- the order in which the checks go
 abbrev pub refusal_list : List ℕ

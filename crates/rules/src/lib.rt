@@ -3,43 +3,125 @@
 #![tactic(auto)]
 
 ghost use Rattle.std.specs.Prelude.{◌≡◌, ◌%◌};
-ghost use Rattle.rules.specs.Numbers.{part_of, larger, join, switched};
-ghost use Rattle.rules.specs.Instructions.{no_operands, byte_operand, division_operand, rights_operand, grant_operands, source_operand, ranged, beside, decoded};
+ghost use Rattle.rules.specs.Lent.{lent, lent_mut};
+ghost use Rattle.rules.specs.Numbers.{part_of, join, switched};
+ghost use Rattle.rules.specs.Refusals.{number_of, value_with, refused_with};
+ghost use Rattle.rules.specs.Instructions.{no_operands, byte_operand, division_operand, rights_operand, grant_operands, source_operand, address_of, ranged, beside, kept, decoded};
 
-// ---- the numbers of the refusal list
+// ---- the refusal list
 
-// M, N or L outside its bounds, or a list of the wrong length.
-pub const OUT_OF_BOUNDS: u32 = 1;
-// Tables not sound; the value is the lowest unsound cell.
-pub const UNSOUND: u32 = 2;
-// Current or caller division not below M.
-pub const NO_SUCH_DIVISION: u32 = 3;
-// Instruction number above 10.
-pub const NO_SUCH_INSTRUCTION: u32 = 4;
-// Operand outside its range, or an unused operand not 0.
-pub const BAD_OPERAND: u32 = 5;
-// No cell covers the address.
-pub const NOT_COVERED: u32 = 6;
-// Cell not valid (for revalidate: cell valid).
-pub const NOT_VALID: u32 = 7;
-// Word not whole, or block or view running past last.
-pub const NOT_WHOLE: u32 = 8;
-// A needed right is missing.
-pub const RIGHT_MISSING: u32 = 9;
-// No standing grant from the named source on this cell names the current division.
-pub const NO_GRANT: u32 = 10;
-// Another division holds a right on the cell.
-pub const OTHER_HOLDS: u32 = 11;
-// The word at the address is not the entry word.
-pub const NOT_ENTRY: u32 = 12;
-// The rights asked for equal those held.
-pub const SAME_RIGHTS: u32 = 13;
+// The check that failed first. A refusal is made where its check is; its number and its value are said here alone.
+#[derive(Clone, Copy, PartialEq, Eq)]
+pub enum Refusal {
+    // M, N or L outside its bounds, or a list of the wrong length.
+    OutOfBounds,
+    // Tables not sound; the lowest unsound cell.
+    Unsound(u32),
+    // Current or caller division not below M.
+    NoSuchDivision,
+    // Instruction number above 10.
+    NoSuchInstruction,
+    // Operand outside its range, or an unused operand not 0.
+    BadOperand,
+    // No cell covers the address.
+    NotCovered,
+    // Cell not valid (for revalidate: cell valid).
+    NotValid,
+    // Word not whole, or block or view running past last.
+    NotWhole,
+    // A needed right is missing.
+    RightMissing,
+    // No standing grant from the named source on this cell names the current division.
+    NoGrant,
+    // Another division holds a right on the cell.
+    OtherHolds,
+    // The word at the address is not the entry word.
+    NotEntry,
+    // The rights asked for equal those held.
+    SameRights,
+}
+
+impl Refusal {
+    // Its number in the list.
+    pub fn number(self) -> u32
+        ensures { result ≡ number_of self }
+    {
+        match self {
+            Refusal::OutOfBounds => 1,
+            Refusal::Unsound(_) => 2,
+            Refusal::NoSuchDivision => 3,
+            Refusal::NoSuchInstruction => 4,
+            Refusal::BadOperand => 5,
+            Refusal::NotCovered => 6,
+            Refusal::NotValid => 7,
+            Refusal::NotWhole => 8,
+            Refusal::RightMissing => 9,
+            Refusal::NoGrant => 10,
+            Refusal::OtherHolds => 11,
+            Refusal::NotEntry => 12,
+            Refusal::SameRights => 13,
+        }
+    }
+
+    // Its value: the lowest unsound cell for 2, and 0 for every other.
+    pub fn value(self) -> u32
+        ensures { result ≡ value_with self }
+    {
+        match self {
+            Refusal::Unsound(cell) => cell,
+            _ => 0,
+        }
+    }
+}
+
+// ---- what the caller lends
+
+// The tables as a call takes them for reading, beside the memory: M, and the lists. N is the length of `first`.
+#[derive(Clone, Copy)]
+pub struct Tables<'a> {
+    pub m: usize,
+    pub first: &'a [u32],
+    pub last: &'a [u32],
+    pub offset: &'a [u32],
+    pub marks: &'a [u8],
+    pub rights: &'a [u8],
+    pub grants: &'a [u16],
+}
+
+// The same, where a call may write the marks, the rights and the grants.
+#[derive(Drop)]
+pub struct TablesMut<'a> {
+    pub m: usize,
+    pub first: &'a [u32],
+    pub last: &'a [u32],
+    pub offset: &'a [u32],
+    pub marks: &'a mut [u8],
+    pub rights: &'a mut [u8],
+    pub grants: &'a mut [u16],
+}
+
+impl TablesMut<'_> {
+    // The tables for reading, as they are now.
+    pub fn tables(&self) -> Tables<'_>
+        ensures { lent result ≡ lent_mut self.now }
+    {
+        Tables {
+            m: self.m,
+            first: self.first,
+            last: self.last,
+            offset: self.offset,
+            marks: self.marks,
+            rights: self.rights,
+            grants: self.grants,
+        }
+    }
+}
 
 // ---- the registers
 
 // One core's registers. They go into a call and come back as one value.
 #[repr(C)]
-#[derive(Clone, Copy)]
+#[derive(Clone, Copy, PartialEq, Eq)]
 pub struct Registers {
     pub current: u32,
     pub caller: u32,
@@ -63,10 +145,21 @@ impl Registers {
 
 // A number of the refusal list, 0 for acceptance, and the value that goes with it.
 #[repr(C)]
-#[derive(Clone, Copy)]
+#[derive(Clone, Copy, PartialEq, Eq)]
 pub struct Answer {
     pub number: u32,
     pub value: u32,
+}
+
+impl From<Refusal> for Answer {
+    ghost from_gives = { λ refusal answer. answer ≡ refused_with refusal };
+
+    fn from(refusal: Refusal) -> Answer {
+        Answer {
+            number: refusal.number(),
+            value: refusal.value(),
+        }
+    }
 }
 
 // ---- rights
@@ -84,20 +177,12 @@ pub fn part_of(a: u8, b: u8) -> bool
     (a % 2 <= b % 2) & (a / 2 % 2 <= b / 2 % 2) & (a / 4 % 2 <= b / 4 % 2)
 }
 
-// The larger of two numbers.
-fn larger_of(a: u8, b: u8) -> u8
-    ensures { result ≡ larger a b }
-{
-    if a <= b { b } else { a }
-}
-
 // Every right of `a` and every right of `b`.
+#[tactic(auto, unfolding(crate::specs::Numbers::join, crate::specs::Numbers::larger))]
 pub fn join_of(a: u8, b: u8) -> u8
     ensures { result ≡ join a b }
 {
-    larger_of(a % 2, b % 2)
-        + 2 * larger_of(a / 2 % 2, b / 2 % 2)
-        + 4 * larger_of(a / 4 % 2, b / 4 % 2)
+    (a % 2).max(b % 2) + 2 * (a / 2 % 2).max(b / 2 % 2) + 4 * (a / 4 % 2).max(b / 4 % 2)
 }
 
 // ---- the instructions
@@ -111,7 +196,7 @@ type Rights = u8;
 type Byte = u8;
 
 // A well-formed instruction: one of the eleven kinds, with its operands.
-#[derive(Clone, Copy)]
+#[derive(Clone, Copy, PartialEq, Eq)]
 pub enum Instruction {
     Load(Address),
     Store(Address, Byte),
@@ -126,18 +211,32 @@ pub enum Instruction {
     Exclusive(Address),
 }
 
+impl Instruction {
+    // The address that it names, which each kind has first.
+    pub fn address(self) -> Address
+        ensures { result ≡ address_of self }
+    {
+        match self {
+            Instruction::Load(x)
+            | Instruction::Store(x, _)
+            | Instruction::Fetch(x)
+            | Instruction::Switch(x, _)
+            | Instruction::Protect(x, _)
+            | Instruction::Grant(x, _, _)
+            | Instruction::Receive(x, _)
+            | Instruction::Transfer(x, _, _)
+            | Instruction::Invalidate(x)
+            | Instruction::Revalidate(x)
+            | Instruction::Exclusive(x) => x,
+        }
+    }
+}
+
 // An instruction kept beside its listing position.
-#[derive(Clone, Copy)]
+#[derive(Clone, Copy, PartialEq, Eq)]
 pub struct Placed {
     pub position: usize,
     pub instruction: Instruction,
-}
-
-// What four numbers stand for: a kind, or refusal 4 or 5.
-#[derive(Clone, Copy)]
-pub enum Decoded {
-    Kind(Placed),
-    Refused(u32),
 }
 
 // Whether both operands are unused.
@@ -202,23 +301,31 @@ fn low_byte(x: u32) -> u8
 }
 
 // An instruction kept beside its position if its operands are in their ranges, else refusal 5.
-fn keep(at: usize, in_range: bool, instruction: Instruction) -> Decoded
-    ensures { result ≡ beside at (ranged in_range instruction) }
+fn keep(at: usize, in_range: bool, instruction: Instruction) -> Result<Placed, Refusal>
+    ensures { kept result ≡ beside at (ranged in_range instruction) }
 {
     if in_range {
-        Decoded::Kind(Placed {
+        Ok(Placed {
             position: at,
-            instruction: instruction,
+            instruction,
         })
     } else {
-        Decoded::Refused(BAD_OPERAND)
+        Err(Refusal::BadOperand)
     }
 }
 
 // The instruction that four numbers stand for where `d` of `m` divisions is current, kept beside its listing position
 // `at`; refusal 4 for another number, 5 for an operand outside its range.
-pub fn decode(m: u32, d: u32, at: usize, number: u32, x: u32, y: u32, z: u32) -> Decoded
-    ensures { result ≡ decoded m d at number x y z }
+pub fn decode(
+    m: u32,
+    d: u32,
+    at: usize,
+    number: u32,
+    x: u32,
+    y: u32,
+    z: u32,
+) -> Result<Placed, Refusal>
+    ensures { kept result ≡ decoded m d at number x y z }
 {
     match number {
         0 => keep(at, no_operands(y, z), Instruction::Load(x)),
@@ -244,6 +351,6 @@ pub fn decode(m: u32, d: u32, at: usize, number: u32, x: u32, y: u32, z: u32) ->
         8 => keep(at, no_operands(y, z), Instruction::Invalidate(x)),
         9 => keep(at, no_operands(y, z), Instruction::Revalidate(x)),
         10 => keep(at, no_operands(y, z), Instruction::Exclusive(x)),
-        _ => Decoded::Refused(NO_SUCH_INSTRUCTION),
+        _ => Err(Refusal::NoSuchInstruction),
     }
 }
