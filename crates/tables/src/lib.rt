@@ -4,13 +4,14 @@
 #![tactic(auto)]
 
 ghost use Rattle.std.specs.Prelude.{◌≡◌, true, false, not, ◌&&◌, ◌||◌, ◌+◌, ◌*◌, ◌≤◌, ◌<◌, length, get_or, leb, ltb, eqb};
+ghost use Rattle.rules.specs.Lent.{lent};
 ghost use Rattle.rules.specs.Below.{every, count, lowest};
 ghost use Rattle.rules.specs.Numbers.{tables, in_bounds};
 ghost use Rattle.rules.specs.Sound.{sound_grant, after_cell_before, sound_cell, lowest_unsound};
-ghost use Rattle.rules.specs.Refusals.{well_sized};
+ghost use Rattle.rules.specs.Refusals.{answer_of, well_sized};
 ghost use Rattle.tables.specs.Check.{excess, tables_checked};
 
-use rules::Answer;
+use rules::{Refusal, Tables};
 
 // Whether the entry `g` of the granter `d` is sound among `m` divisions.
 fn sound_grant(m: u16, d: u16, g: u16) -> bool
@@ -236,36 +237,24 @@ fn well_sized(
 
 // Checks 1 and 2 on anything that can be lent: number 0 where the lists have their lengths and the tables are sound,
 // else 1, or 2 with the lowest unsound cell.
-pub fn check(
-    m: usize,
-    first: &[u32],
-    last: &[u32],
-    offset: &[u32],
-    marks: &[u8],
-    rights: &[u8],
-    grants: &[u16],
-    memory: &[u8],
-) -> Answer
-    ensures { result ≡ tables_checked (tables m first.now last.now offset.now marks.now rights.now grants.now memory.now) }
+pub fn check(tables: Tables, memory: &[u8]) -> Result<(), Refusal>
+    ensures { answer_of result ≡ tables_checked (lent tables.entry memory.now) }
 {
+    let m = tables.m;
+    let first = tables.first;
+    let last = tables.last;
+    let offset = tables.offset;
+    let marks = tables.marks;
+    let rights = tables.rights;
+    let grants = tables.grants;
     if well_sized(m, first, last, offset, marks, rights, grants, memory) {
         let c = lowest_unsound(m, first, last, offset, marks, rights, grants, memory);
         if c == first.len() {
-            Answer {
-                number: 0,
-                value: 0,
-            }
+            Ok(())
         } else {
-            let value = c as u32;
-            Answer {
-                number: rules::UNSOUND,
-                value: value,
-            }
+            Err(Refusal::Unsound(c as u32))
         }
     } else {
-        Answer {
-            number: rules::OUT_OF_BOUNDS,
-            value: 0,
-        }
+        Err(Refusal::OutOfBounds)
     }
 }

@@ -1,31 +1,23 @@
 use mathlib.Core.Path.{◌≡◌, sym, ◌∙◌}
 use mathlib.Core.Bool.{true}
 use native.Mathlib.Omega.{arith}
-use Rattle.rules.specs.Numbers.{Tables, tables}
+use Rattle.rules.specs.Lent.{lent}
 use Rattle.rules.specs.Refusals.{well_sized}
 use Rattle.rules.proofs.Sizes.{sized}
 use Rattle.tables.proofs.Laws.{unsound_le, checked_outside, checked_sound, checked_unsound}
 use Rattle.tables.proofs.check.Goals as goal
 use Rattle.tables.proofs.check.Goals.{Start, Then-well_sized}
 
-abbrev lent : Start → Tables
-lent c =
-    tables c.args.m c.args.first.now c.args.last.now c.args.offset.now c.args.marks.now c.args.rights.now
-    c.args.grants.now c.args.memory.now
-
-sizes_passed : (c : Then-well_sized) → well_sized (
-    tables c.args.m c.args.first.now c.args.last.now c.args.offset.now c.args.marks.now c.args.rights.now
-    c.args.grants.now c.args.memory.now
-    ) ≡ true
+sizes_passed : (c : Then-well_sized) → well_sized (lent c.args.tables c.args.memory.now) ≡ true
 sizes_passed c = sym c.well_sized.ensures ∙ c.if-well_sized.true
 
 pub lowest_unsound-c-requires : goal.lowest_unsound-c-requires
 lowest_unsound-c-requires c = sizes_passed c
 
-pub overflow_cast-value : goal.overflow_cast-value
-overflow_cast-value c =
-    let passed = (goal.at.overflow_cast-value c).Then-well_sized in
-    let t = lent ((goal.at.overflow_cast-value c).Start) in
+pub overflow_cast-result : goal.overflow_cast-result
+overflow_cast-result c =
+    let passed = (goal.at.overflow_cast-result c).Then-well_sized in
+    let t = lent c.args.tables c.args.memory.now in
     let s = sized t (sizes_passed passed) in
     omega (arith, unsound_le t, c.lowest_unsound-c.ensures)
 
