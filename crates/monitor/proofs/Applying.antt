@@ -16,9 +16,8 @@ use Rattle.rules.specs.declared.Instruction.{Instruction}
 use Rattle.rules.specs.declared.Instruction.TheVariants.{Load, Store, Fetch, Switch, Protect, Grant, Receive, Transfer, Invalidate, Revalidate, Exclusive}
 use Rattle.rules.proofs.Checks.{AllHold}
 use Rattle.rules.proofs.Decoding.{Offer}
-use Rattle.monitor.specs.Answers.{came}
-use Rattle.monitor.specs.Ready.{Ready}
-use Rattle.monitor.specs.declared.reply.Reply.{Reply}
+use Rattle.monitor.specs.Ready.{Ready, accepted_as}
+use Rattle.rules.specs.Refusals.{Outcome}
 use Rattle.monitor.proofs.Readiness.{own_rights, operands_fit, word_there}
 
 -- 1 where a test holds
@@ -27,8 +26,8 @@ one_if true = refl
 one_if false = refl
 
 -- an acceptance
-abbrev accepting : (v : ℕ) → Registers → Reply
-accepting v r = record { number = 0; value = v; registers = r }
+abbrev accepts : (v : ℕ) → Registers → Tables → Outcome
+accepts v r t = accepted_as (record { value = v; registers = r }) t
 
 -- ---- what the range and the checks of a kind say
 
@@ -58,62 +57,61 @@ module _ {t : Tables} {r : Registers} {i : Instruction} {c : ℕ} (p : Ready (st
 
   -- ---- what it leaves, kind by kind: where each list and the value are as said, the outcome is the rules'
 
-  pub load_done : {o : Reply} {x p v : ℕ} → i ≡ Load x → p ≡ offset_of t c + x - first_of t c → v ≡ get_or t.memory p 0
-      → o ≡ accepting v r → came o t ≡ done_at (state t r) c i
+  pub load_done : {x p v : ℕ} → i ≡ Load x → p ≡ offset_of t c + x - first_of t c → v ≡ get_or t.memory p 0
+      → accepts v r t ≡ done_at (state t r) c i
   unfolding done_at effect value_of registers_after place
-  load_done e at byte back = rw (e, back, byte, at)
+  load_done e at byte = rw (e, byte, at)
 
-  pub store_done : {o : Reply} {x y p : ℕ} {b : List ℕ} → i ≡ Store x y → p ≡ offset_of t c + x - first_of t c → b ≡ set t.memory p y
-      → o ≡ accepting 0 r → came o (with_memory t b) ≡ done_at (state t r) c i
+  pub store_done : {x y p : ℕ} {b : List ℕ} → i ≡ Store x y → p ≡ offset_of t c + x - first_of t c → b ≡ set t.memory p y
+      → accepts 0 r (with_memory t b) ≡ done_at (state t r) c i
   unfolding done_at effect value_of registers_after place
-  store_done e at put back = rw (e, back, put, at)
+  store_done e at put = rw (e, put, at)
 
-  pub fetch_done : {o : Reply} {x p v : ℕ} → i ≡ Fetch x → p ≡ offset_of t c + x - first_of t c → v ≡ word_in t.memory p
-      → o ≡ accepting v r → came o t ≡ done_at (state t r) c i
+  pub fetch_done : {x p v : ℕ} → i ≡ Fetch x → p ≡ offset_of t c + x - first_of t c → v ≡ word_in t.memory p
+      → accepts v r t ≡ done_at (state t r) c i
   unfolding done_at effect value_of registers_after place
-  fetch_done e at word back = rw (e, back, word, at)
+  fetch_done e at word = rw (e, word, at)
 
-  pub switch_done : {o : Reply} {x y : ℕ} {q : Registers} → i ≡ Switch x y → q ≡ switched r y x
-      → o ≡ accepting r.current q → came o t ≡ done_at (state t r) c i
+  pub switch_done : {x y : ℕ} {q : Registers} → i ≡ Switch x y → q ≡ switched r y x
+      → accepts r.current q t ≡ done_at (state t r) c i
   unfolding done_at effect value_of registers_after
-  switch_done e to back = rw (e, back, to)
+  switch_done e to = rw (e, to)
 
-  pub protect_done : {o : Reply} {x y : ℕ} {k : List ℕ} → i ≡ Protect x y → k ≡ set t.rights (entry t c r.current) y
-      → o ≡ accepting y r → came o (with_rights t k) ≡ done_at (state t r) c i
+  pub protect_done : {x y : ℕ} {k : List ℕ} → i ≡ Protect x y → k ≡ set t.rights (entry t c r.current) y
+      → accepts y r (with_rights t k) ≡ done_at (state t r) c i
   unfolding done_at effect value_of registers_after
-  protect_done {y = y} e put back = rw (e, back, put, own_put y)
+  protect_done {y = y} e put = rw (e, put, own_put y)
 
-  pub grant_done : {o : Reply} {x y z h w : ℕ} {g : List ℕ} → i ≡ Grant x y z → h ≡ held t c r.current → w ≡ grant_entry y z
-      → g ≡ set t.grants (entry t c r.current) w
-      → o ≡ accepting h r → came o (with_grants t g) ≡ done_at (state t r) c i
+  pub grant_done : {x y z h w : ℕ} {g : List ℕ} → i ≡ Grant x y z → h ≡ held t c r.current → w ≡ grant_entry y z
+      → g ≡ set t.grants (entry t c r.current) w → accepts h r (with_grants t g) ≡ done_at (state t r) c i
   unfolding done_at effect value_of registers_after
-  grant_done e holds entered put back = rw (e, back, put, entered, holds)
+  grant_done e holds entered put = rw (e, put, entered, holds)
 
-  pub receive_done : {o : Reply} {x y v : ℕ} {k g : List ℕ} → i ≡ Receive x y
+  pub receive_done : {x y v : ℕ} {k g : List ℕ} → i ≡ Receive x y
       → v ≡ join (held t c r.current) (rights_in (grant_of t c y))
       → k ≡ set t.rights (entry t c r.current) v → g ≡ set t.grants (entry t c y) 0
-      → o ≡ accepting v r → came o (with_grants (with_rights t k) g) ≡ done_at (state t r) c i
+      → accepts v r (with_grants (with_rights t k) g) ≡ done_at (state t r) c i
   unfolding done_at effect value_of registers_after
-  receive_done {y = y} e joined put gone back =
-      rw (e, back, put, gone, joined, own_put (join (held t c r.current) (rights_in (grant_of t c y))))
+  receive_done {y = y} e joined put gone =
+      rw (e, put, gone, joined, own_put (join (held t c r.current) (rights_in (grant_of t c y))))
 
-  pub transfer_done : {o : Reply} {x y z w : ℕ} {k g : List ℕ} → i ≡ Transfer x y z → w ≡ grant_entry y z
+  pub transfer_done : {x y z w : ℕ} {k g : List ℕ} → i ≡ Transfer x y z → w ≡ grant_entry y z
       → g ≡ set t.grants (entry t c r.current) w → k ≡ set t.rights (entry t c r.current) 0
-      → o ≡ accepting 0 r → came o (with_rights (with_grants t g) k) ≡ done_at (state t r) c i
+      → accepts 0 r (with_rights (with_grants t g) k) ≡ done_at (state t r) c i
   unfolding done_at effect value_of registers_after
-  transfer_done e entered put left back = rw (e, back, left, put, entered, own_put 0)
+  transfer_done e entered put left = rw (e, left, put, entered, own_put 0)
 
-  pub invalidate_done : {o : Reply} {x h : ℕ} {l : List ℕ} → i ≡ Invalidate x → h ≡ held t c r.current → l ≡ set t.marks c 0
-      → o ≡ accepting h r → came o (with_marks t l) ≡ done_at (state t r) c i
+  pub invalidate_done : {x h : ℕ} {l : List ℕ} → i ≡ Invalidate x → h ≡ held t c r.current → l ≡ set t.marks c 0
+      → accepts h r (with_marks t l) ≡ done_at (state t r) c i
   unfolding done_at effect value_of registers_after
-  invalidate_done e holds put back = rw (e, back, put, holds)
+  invalidate_done e holds put = rw (e, put, holds)
 
-  pub revalidate_done : {o : Reply} {x h : ℕ} {l : List ℕ} → i ≡ Revalidate x → h ≡ held t c r.current → l ≡ set t.marks c 1
-      → o ≡ accepting h r → came o (with_marks t l) ≡ done_at (state t r) c i
+  pub revalidate_done : {x h : ℕ} {l : List ℕ} → i ≡ Revalidate x → h ≡ held t c r.current → l ≡ set t.marks c 1
+      → accepts h r (with_marks t l) ≡ done_at (state t r) c i
   unfolding done_at effect value_of registers_after
-  revalidate_done e holds put back = rw (e, back, put, holds)
+  revalidate_done e holds put = rw (e, put, holds)
 
-  pub exclusive_done : {o : Reply} {x : ℕ} {b : Bool} → i ≡ Exclusive x → b ≡ eqb (other_holder t.M t.rights c r.current) t.M
-      → o ≡ accepting (bool_byte b) r → came o t ≡ done_at (state t r) c i
+  pub exclusive_done : {x : ℕ} {b : Bool} → i ≡ Exclusive x → b ≡ eqb (other_holder t.M t.rights c r.current) t.M
+      → accepts (bool_byte b) r t ≡ done_at (state t r) c i
   unfolding done_at effect value_of registers_after nobody_else
-  exclusive_done {b = b} e alone back = rw (e, back, one_if b, alone)
+  exclusive_done {b = b} e alone = rw (e, one_if b, alone)

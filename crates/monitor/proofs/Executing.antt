@@ -1,22 +1,32 @@
 -- Laws of an instruction given as four numbers, past checks 1, 2 and 3. Assumes nothing.
 use Prim.Native.Nat.{ℕ, ◌≤◌}
-use mathlib.Core.Path.{◌≡◌, sym, ap, ◌∙◌, subst}
+use mathlib.Core.Path.{◌≡◌, refl, sym, ap, ◌∙◌, subst}
 use mathlib.Core.Logic.{◌⊎◌, inl, inr}
 use mathlib.Core.List.{[]}
 use native.Mathlib.Omega.{arith}
 use borrow.Author.Tests.{ne_eqb}
-use Rattle.rules.specs.Numbers.{State}
-use Rattle.rules.specs.Refusals.{no_such_instruction, bad_operand, Outcome, first_failing, answered, first_checks}
+use Rattle.rules.specs.Numbers.{State, Tables}
+use Rattle.rules.specs.Refusals.{number_of, no_such_instruction, bad_operand, Outcome, first_failing, answered, first_checks}
 use Rattle.rules.specs.Instructions.{Formed, well_formed, ill_formed, decoded}
 use Rattle.rules.specs.Calls.{instruction, formed_in, instruction_checks, instruction_done, done, performed}
-use Rattle.rules.specs.declared.Decoded.{Decoded}
-use Rattle.rules.specs.declared.Decoded.TheVariants.{Kind, Refused}
+use Rattle.rules.specs.Instructions.{Decoded, Kind, Refused}
 use Rattle.rules.specs.declared.Placed.{Placed}
 use Rattle.rules.proofs.Checks.{AllHold, value_zero}
 use Rattle.rules.proofs.Decoding.{Sensible, InRange, formed_sensible, kind_formed, refused_formed}
 use Rattle.rules.proofs.Performing.{performed_own}
-use Rattle.monitor.specs.Ready.{kind_performed}
+use Rattle.std.specs.Prelude.{Result, Ok, Err}
+use Rattle.rules.specs.declared.Registers.{Registers}
+use Rattle.monitor.specs.declared.reply.Accepted.{Accepted}
+use Rattle.monitor.specs.Answers.{came}
+use Rattle.rules.specs.declared.Refusal.{Refusal}
+use Rattle.rules.proofs.Refusing.{some_number, no_value}
+use Rattle.monitor.specs.Ready.{gave, replied, kind_performed}
 use Rattle.monitor.specs.Runs.{listed}
+
+-- a reply says what was given
+pub came_replied : (a : Result Accepted Refusal) (before : Registers) (t : Tables) → came (replied a before) t ≡ gave a before t
+came_replied (Ok a) before t = refl
+came_replied (Err r) before t = refl
 
 -- e was decoded of the four numbers at the position
 module _ (s : State) (position number x y z : ℕ) (e : Decoded)
@@ -53,20 +63,19 @@ module _ (s : State) (position number x y z : ℕ) (e : Decoded)
 
   -- ---- a refusal
 
-  module _ (k : ℕ) (f : e ≡ Refused k) where
-    ill : form ≡ ill_formed k
-    ill = refused_formed position form k (sym q ∙ f)
+  module _ (r : Refusal) (f : e ≡ Refused (number_of r)) where
+    ill : form ≡ ill_formed (number_of r)
+    ill = refused_formed position form (number_of r) (sym q ∙ f)
 
-    number_large : 4 ≤ k
-    number_large = go (sensible (ill_formed k) ill)
+    number_large : 4 ≤ number_of r
+    number_large = go (sensible (ill_formed (number_of r)) ill)
       where
-        go : (k ≡ no_such_instruction) ⊎ (k ≡ bad_operand) → 4 ≤ k
+        go : (number_of r ≡ no_such_instruction) ⊎ (number_of r ≡ bad_operand) → 4 ≤ number_of r
         go (inl a) = omega arith
         go (inr a) = omega arith
 
-    pub executed_refused : AllHold (first_checks s) → record { number = k; value = 0; part = []; after = s } ≡ performed s (instruction number x y z)
+    pub executed_refused : AllHold (first_checks s) → gave (Err r) s.registers s.lent ≡ performed s (instruction number x y z)
     unfolding answered first_failing
     executed_refused h =
-        let l : 4 ≤ k = number_large in
-        let n : (k ≡ 0) → ⊥ = λ a. omega arith in
-        rw (own (ill_formed k) ill h, ne_eqb k 0 n, value_zero s.lent k (omega arith))
+        let l : 4 ≤ number_of r = number_large in
+        rw (own (ill_formed (number_of r)) ill h, ne_eqb (number_of r) 0 (some_number r), value_zero s.lent (number_of r) (omega arith), no_value r (λ t. omega (arith, l, t)))

@@ -11,7 +11,7 @@ use lib.Seq.{take-suc, take-suc-set, take_all, drop-drop}
 use lib.Dec.{eqb}
 use borrow.Author.Tests.{lt-leb, ne_eqb, eqb-true, eqb-false}
 use Rattle.rules.specs.Numbers.{State, state, L, read, write, part_of, last_of, mark_of, held}
-use Rattle.rules.specs.Refusals.{not_covered, not_valid, not_whole, right_missing, Check, ◌unless◌, first_failing, Outcome, accepted, refused_value, first_checks}
+use Rattle.rules.specs.Refusals.{number_of, refused_with, not_covered, not_valid, not_whole, right_missing, Check, ◌unless◌, first_failing, Outcome, accepted, refused_value, first_checks}
 use Rattle.rules.specs.Instructions.{cell_at, covered, valid, place, with_memory}
 use Rattle.rules.specs.Blocks.{within_cell, block_needs, block_written, part_viewed}
 use Rattle.rules.specs.Calls.{Action, block_write, read_view, block_checks, checks, done, performed}
@@ -20,13 +20,14 @@ use Rattle.rules.proofs.Checks.{accept_all, first_has, value_zero, answer_refuse
 use Rattle.rules.proofs.Laws.{accepted_done, refusal_same}
 use Rattle.rules.proofs.Performing.{first_part, second_part}
 use Rattle.rules.proofs.Kept.{begun, covering, block_inside}
-use Rattle.monitor.specs.Leaves.{located_by, located_in, call_checks, placed_in}
-use Rattle.monitor.specs.declared.block.Located.{Located}
-use Rattle.monitor.specs.declared.block.Located.TheVariants.{At as LocatedAt, Refused}
+use Rattle.monitor.specs.Leaves.{Located, LocatedAt, Refused, located_by, located_in, call_checks, placed_in}
 use Rattle.monitor.proofs.Searching.{FoundAt}
 use Rattle.monitor.specs.Answers.{view_place_in}
 use Rattle.monitor.specs.Ready.{checks_answer, first_answer}
 use Rattle.rules.specs.declared.Answer.{Answer}
+use Rattle.rules.specs.declared.Refusal.{Refusal}
+use Rattle.rules.specs.declared.Refusal.TheVariants.{NotCovered}
+use Rattle.rules.proofs.Refusing.{some_number, no_value}
 use Rattle.monitor.proofs.Beginning.{refused_by, first_hold}
 
 -- ---- a block within its cell
@@ -35,16 +36,6 @@ use Rattle.monitor.proofs.Beginning.{refused_by, first_hold}
 pub beyond_cell : (last x n : ℕ) → last < 4294967296 → 4294967296 < n → false ≡ within_cell last x n
 unfolding within_cell
 beyond_cell last x n h k = sym (lt-leb (x + n) (last + 1) (omega arith))
-
--- ---- bytes copied one after the other
-
-module _ (a b : List ℕ) where
-  pub copied_more : (i : ℕ) → i < length a → i < length b → take i a ≡ take i b
-      → take (i + 1) (set a i (get_or b i 0)) ≡ take (i + 1) b
-  copied_more i h k e = rw (add-one, take-suc-set, take-suc b i 0, e)
-
-  pub copied_all : (i : ℕ) → length b ≤ i → length a ≡ length b → take i a ≡ take i b → a ≡ b
-  copied_all i h k e = sym (take_all i a (omega arith)) ∙ e ∙ take_all i b h
 
 -- ---- a part of the memory
 
@@ -96,14 +87,15 @@ module _ (ks : List Check) (s : State) (x : ℕ) (r : Located) (e : r ≡ locate
 -- ---- by the checks on a block from 6 on
 
 module _ (right : ℕ) (s : State) (x n : ℕ) where
-  -- their refusals have value 0
-  block_no_value : (first_failing (block_checks right s x n) ≡ 0 → ⊥) → refused_value s.lent (first_failing (block_checks right s x n)) ≡ 0
+  -- their refusals are above 2, and so have value 0
+  block_large : (first_failing (block_checks right s x n) ≡ 0 → ⊥) → 3 ≤ first_failing (block_checks right s x n)
   unfolding block_needs
-  block_no_value h =
-      value_zero s.lent _
-      (first_has (λ k. 3 ≤ k) (block_checks right s x n) (omega arith, (omega arith, (omega arith, (omega arith, tt)))) h)
+  block_large h = first_has (λ k. 3 ≤ k) (block_checks right s x n) (omega arith, (omega arith, (omega arith, (omega arith, tt)))) h
 
-  pub located_nowhere : covered s.lent x ≡ false → Refused (record { number = not_covered; value = 0 }) ≡ located_in right s x n
+  block_no_value : (first_failing (block_checks right s x n) ≡ 0 → ⊥) → refused_value s.lent (first_failing (block_checks right s x n)) ≡ 0
+  block_no_value h = value_zero s.lent _ (block_large h)
+
+  pub located_nowhere : covered s.lent x ≡ false → Refused (refused_with NotCovered) ≡ located_in right s x n
   unfolding located_by first_failing
   located_nowhere e = rw e
 
@@ -128,10 +120,11 @@ module _ {right : ℕ} {s : State} {x n c k : ℕ} (j : Judged right s x n c k) 
   pub located_at : (p : ℕ) → k ≡ 0 → p ≡ place s.lent c x → LocatedAt p ≡ located_in right s x n
   located_at p z e = rw (all_located (block_checks right s x n) s x (sym judge_decides ∙ z), j.found.same, e)
 
-  pub located_refused : (k ≡ 0 → ⊥) → Refused (record { number = k; value = 0 }) ≡ located_in right s x n
-  located_refused h =
-      let l : first_failing (block_checks right s x n) ≡ 0 → ⊥ = λ z. h (judge_decides ∙ z) in
-      rw (one_refused (block_checks right s x n) s x l, block_no_value right s x n l, ← judge_decides)
+  pub located_refused : (f : Refusal) → k ≡ number_of f → Refused (refused_with f) ≡ located_in right s x n
+  located_refused f e =
+      let l : first_failing (block_checks right s x n) ≡ 0 → ⊥ = λ z. some_number f (sym e ∙ judge_decides ∙ z) in
+      let large : 3 ≤ first_failing (block_checks right s x n) = block_large right s x n l in
+      rw (one_refused (block_checks right s x n) s x l, block_no_value right s x n l, ← judge_decides, e, no_value f (λ t. omega (arith, large, judge_decides, e, t)))
 
 -- ---- by all checks on it
 

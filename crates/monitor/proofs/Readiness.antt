@@ -1,14 +1,16 @@
 -- What the tests before it say to a judge or an effect: the cell, its entries and its bytes are there. Assumes nothing.
 use Prim.Native.Nat.{ℕ, suc, ◌+◌, ◌-◌, ◌*◌, ◌%◌, ◌≤◌, ◌<◌}
-use mathlib.Core.Path.{◌≡◌, subst}
+use mathlib.Core.Path.{◌≡◌, sym, ap, subst, ◌∙◌}
+use mathlib.Core.List.{List, []}
 use mathlib.Core.Bool.{true}
 use native.Mathlib.Omega.{arith}
 use lib.ListN.{length}
 use lib.Dec.{ltb, eqb}
 use borrow.Author.Tests.{leb-true, ltb-true}
-use Rattle.rules.specs.Numbers.{Tables, state, N, L, first_of, last_of, offset_of, entry}
+use Rattle.rules.specs.Numbers.{Tables, state, N, L, first_of, last_of, offset_of, entry, held}
 use Rattle.rules.specs.Sound.{after_cell_before}
-use Rattle.rules.specs.Instructions.{address_of, whole_word}
+use Rattle.rules.specs.Instructions.{address_of, whole_word, other_holder, needs}
+use Rattle.rules.specs.Refusals.{first_failing}
 use Rattle.rules.specs.declared.Registers.{Registers}
 use Rattle.rules.specs.declared.Instruction.{Instruction}
 use Rattle.rules.specs.declared.Instruction.TheVariants.{Switch, Receive}
@@ -18,7 +20,8 @@ use Rattle.rules.proofs.Sizes.{Sized, row_below, entry_below}
 use Rattle.rules.proofs.SoundCells.{SoundCell, AllSound}
 use Rattle.rules.proofs.Kept.{Covering}
 use Rattle.rules.proofs.Operands.{Other}
-use Rattle.monitor.specs.Ready.{Ready}
+use Rattle.rules.specs.declared.Answer.{Answer}
+use Rattle.monitor.specs.Ready.{Ready, first_answer}
 use Rattle.monitor.specs.Leaves.{CellsRise}
 
 -- ---- a cell and its entries
@@ -116,3 +119,28 @@ module _ {t : Tables} {r : Registers} {i : Instruction} {c : ℕ} (p : Ready (st
   pub word_there : {j : Instruction} → i ≡ j → whole_word (last_of t c) (address_of j) ≡ true
       → offset_of t c + address_of j - first_of t c + 3 < L t
   word_there {j} e = word_inside t (address_of j) c (p.begun.sound c p.cell.cell) (covers_address e)
+
+-- ---- the tables for reading are those that are lent, whatever the memory
+
+module _ (read lent : List ℕ → Tables) (e : read ≡ lent) where
+  pub seen_same : (memory : List ℕ) → read memory ≡ lent memory
+  seen_same b = ap (λ f. f b) e
+
+  pub seen_ready : {b : List ℕ} {r : Registers} {i : Instruction} {c : ℕ} → Ready (state (lent b) r) i c → Ready (state (read b) r) i c
+  seen_ready {b} {r} {i} {c} = subst (λ t. Ready (state t r) i c) (sym (seen_same b))
+
+  pub seen_held : (c d : ℕ) → held (read []) c d ≡ held (lent []) c d
+  seen_held c d = ap (λ (t : Tables). held t c d) (seen_same [])
+
+  pub seen_place : (c x : ℕ) → offset_of (read []) c + x - first_of (read []) c ≡ offset_of (lent []) c + x - first_of (lent []) c
+  seen_place c x = ap (λ (t : Tables). offset_of t c + x - first_of t c) (seen_same [])
+
+  pub seen_alone : (c d : ℕ) → eqb (other_holder (read []).M (read []).rights c d) (read []).M
+      ≡ eqb (other_holder (lent []).M (lent []).rights c d) (lent []).M
+  seen_alone c d = ap (λ (t : Tables). eqb (other_holder t.M t.rights c d) t.M) (seen_same [])
+
+  pub seen_judged : {n : ℕ} (b : List ℕ) (d c : ℕ) (i : Instruction) → n ≡ first_failing (needs (read b) d c i) → n ≡ first_failing (needs (lent b) d c i)
+  seen_judged b d c i e = e ∙ ap (λ (t : Tables). first_failing (needs t d c i)) (seen_same b)
+
+  pub seen_first : {a : Answer} (b : List ℕ) (r : Registers) → a ≡ first_answer (state (read b) r) → a ≡ first_answer (state (lent b) r)
+  seen_first b r e = e ∙ ap (λ (t : Tables). first_answer (state t r)) (seen_same b)

@@ -1,10 +1,14 @@
 -- Laws of instructions one after the other: a turn of the loop, and a list that is refused as a whole. Assumes nothing.
+use Rattle.std.specs.Prelude.{◌++◌, replicate, drop}
+use Rattle.std.proofs.lemmas.List.Edits.{fill_none, fill_more}
 use Prim.Native.Nat.{ℕ, zero, suc, ◌+◌, ◌-◌, ◌*◌, ◌≤◌}
 use mathlib.Core.Path.{◌≡◌, refl, sym, ap, ◌∙◌, subst}
 use mathlib.Core.List.{List, [], ◌∷◌}
 use native.Mathlib.Omega.{arith}
 use native.Mathlib.Numerals.{add-one}
 use lib.ListN.{length, get_or, set, length-set}
+use Rattle.rules.specs.Lent.{SameLists}
+use Rattle.rules.specs.declared.TablesMut.{TablesMut as LentTablesMut}
 use Rattle.rules.specs.Numbers.{Tables, State, state}
 use Rattle.rules.specs.Refusals.{Outcome}
 use Rattle.rules.specs.Instructions.{Formed, well_formed, ill_formed}
@@ -32,6 +36,14 @@ room_numbers i n v = omega arith
 pub room_values : (i n v : ℕ) → room_for i n v ≤ v
 unfolding room_for
 room_values i n v = omega arith
+
+-- ---- the lists stay those that were lent
+
+pub same_lists : {t : LentTablesMut} → SameLists t t
+same_lists = record { marks = refl; rights = refl; grants = refl }
+
+pub same_then : {t u v : LentTablesMut} → SameLists t u → SameLists u v → SameLists t v
+same_then a b = record { marks = b.marks ∙ a.marks; rights = b.rights ∙ a.rights; grants = b.grants ∙ a.grants }
 
 -- ---- a turn
 
@@ -107,9 +119,12 @@ module _ (s : State) (a : Answer) (e : a ≡ first_answer s) (h : a.number ≡ 0
 
 -- ---- filling
 
-pub filled_more : (v k : ℕ) (out : List ℕ) → set (filled v k out) k v ≡ filled v (k + 1) out
+pub filled_front : (v k : ℕ) (out : List ℕ) → k ≤ length out → replicate k v ++ drop k out ≡ filled v k out
 unfolding filled
-filled_more v k out = rw add-one
+filled_front v zero out h = sym (fill_none out v)
+filled_front v (suc k) out h =
+    rw (← filled_front v k out (omega arith))
+    (subst (λ n. replicate n v ++ drop n out ≡ set (replicate k v ++ drop k out) k v) (add-one k) (sym (fill_more k v out (omega arith))))
 
 -- ---- a list of one
 

@@ -1,8 +1,15 @@
 -- What the two searches answer: the covering cell, and the lowest other holder. Assumes nothing.
+use Rattle.std.specs.Prelude.{count_by, take}
+use native.Mathlib.Numerals.{add-one}
+use lib.Seq.{take_all}
+use Rattle.std.proofs.lemmas.List.Sums.{count_by_more_no, count_by_more_yes}
+use Rattle.std.specs.Prelude.{Option, Some, None, is_some, Err}
+use Rattle.std.specs.Option.{ok_or}
+use Rattle.rules.specs.declared.Refusal.{Refusal}
 use Prim.Native.Nat.{ℕ, zero, suc, ◌+◌, ◌*◌, ◌≤◌, ◌<◌}
-use mathlib.Core.Path.{◌≡◌, refl, sym}
+use mathlib.Core.Path.{◌≡◌, refl, sym, subst}
 use mathlib.Core.List.{List}
-use mathlib.Core.Bool.{Bool, true, false, cond, not, ◌&&◌, and-false}
+use mathlib.Core.Bool.{Bool, true, false, cond, not, ◌&&◌, and-false, true≢false}
 use native.Mathlib.Omega.{arith}
 use lib.ListN.{length, get_or}
 use lib.Dec.{ltb, eqb}
@@ -14,9 +21,6 @@ use Rattle.rules.proofs.Below.{by_test, below_suc, Searched, searched_here, sear
 use Rattle.rules.proofs.Below.{lowest_le, lowest_is, lowest_none}
 use Rattle.rules.proofs.Kept.{Covering, covering}
 use Rattle.monitor.specs.Leaves.{CellsRise, found_in, other_in}
-use Rattle.monitor.specs.declared.find.Found.{Found}
-use Rattle.monitor.specs.declared.find.Found.TheVariants.{At, Nowhere}
-use Rattle.monitor.specs.declared.look.Holder.TheVariants.{Division, Nobody}
 
 -- ---- the covering cell
 
@@ -43,13 +47,6 @@ module _ (first last : List ℕ) (rise : CellsRise first last) where
       (λ b. let v : get_or last k 0 < get_or first c 0 = later_above k c b (omega arith) in
       omega (arith, rise.rising c (omega arith), rise.apart c l))
       (λ e. rw e (rise.apart c l))
-
-  -- so its addresses are at least its number
-  number_le : (c : ℕ) → c < length first → c ≤ get_or last c 0
-  number_le zero l = omega arith
-  number_le (suc c) l =
-      let v : c ≤ get_or last c 0 = number_le c (omega arith) in
-      omega (arith, rise.apart c l, rise.rising (suc c) l)
 
   module _ (x i n : ℕ) (e : Ended last x i n) (h : i < length first) where
     -- where a cell ends below x, all before it do
@@ -81,9 +78,21 @@ module _ (first last : List ℕ) (rise : CellsRise first last) where
               (λ q. let s : k ≡ i = omega (arith, ltb-false k i q) in rw s b);
         }
 
-    -- the count stays below x
-    pub ended_few : get_or last i 0 < x → n < x
-    ended_few b = omega (arith, e.within, number_le i h)
+  -- those that end below x are counted
+  pub ended_counted : (x i : ℕ) → i ≤ length first → Ended last x i (count_by (λ e. ltb e x) (take i last))
+  ended_counted x zero h = ended_none last x
+  ended_counted x (suc i) h =
+      let before = ended_counted x i (omega arith) in
+      by_test (ltb (get_or last i 0) x)
+      (λ q. rw (← add-one i, count_by_more_yes (λ e. ltb e x) last i 0 (omega (arith, rise.lasts)) q)
+          (ended_more x i _ before (omega arith) (ltb-true _ _ q)))
+      (λ q. rw (← add-one i, count_by_more_no (λ e. ltb e x) last i 0 (omega (arith, rise.lasts)) q)
+          (ended_same x i _ before (omega arith) (ltb-false _ _ q)))
+
+  pub ended_all : (x : ℕ) → Ended last x (length first) (count_by (λ e. ltb e x) last)
+  ended_all x =
+      subst (λ (l : List ℕ). Ended last x (length first) (count_by (λ e. ltb e x) l)) (take_all (length first) last (omega (arith, rise.lasts)))
+      (ended_counted x (length first) (omega arith))
 
   -- once all have been looked at, only the cell after them can cover x
   module _ (x c : ℕ) (e : Ended last x (length first) c) where
@@ -106,13 +115,13 @@ module _ (first last : List ℕ) (rise : CellsRise first last) where
             (λ q. omega (arith, f (omega arith), rise.rising c (omega arith), later_above c k (ltb-true c k q) h))
             (λ q. let s : k ≡ c = omega (arith, ltb-false c k q) in rw s (f (omega arith)))
 
-    pub found_here : c < length first → get_or first c 0 ≤ x → At c ≡ found_in first last x
+    pub found_here : c < length first → get_or first c 0 ≤ x → Some c ≡ found_in first last x
     unfolding found_in covering_cell
     found_here h l =
         let q : lowest (covers first last x) (length first) ≡ c = lowest_is _ _ c h (covers_x h l) not_below in
         rw (q, lt-ltb c (length first) h)
 
-    pub found_nowhere : (c < length first → x < get_or first c 0) → Nowhere ≡ found_in first last x
+    pub found_nowhere : (c < length first → x < get_or first c 0) → None ≡ found_in first last x
     unfolding found_in covering_cell
     found_nowhere f =
         let q : lowest (covers first last x) (length first) ≡ length first
@@ -129,23 +138,23 @@ pub record FoundAt (t : Tables) (x c : ℕ) : Type 0 where
   pub cell : Covering t x c
 
 -- r is what the search answered
-module _ (t : Tables) (x : ℕ) (r : Found) (e : r ≡ found_in t.first t.last x) where
-  pub found_at : (c : ℕ) → r ≡ At c → FoundAt t x c
+module _ (t : Tables) (x : ℕ) (r : Option ℕ) (e : r ≡ found_in t.first t.last x) where
+  pub found_at : (c : ℕ) → r ≡ Some c → FoundAt t x c
   unfolding found_in covered
   found_at c f =
       by_test (covered t x)
-      (λ p. let g : r ≡ At (cell_at t x) = rw p at e in
+      (λ p. let g : r ≡ Some (cell_at t x) = rw p at e in
       let q : cell_at t x ≡ c = cc in
       record { covers = p; same = q; cell = rw q at (covering t x p) })
-      (λ p. let g : r ≡ Nowhere = rw p at e in
+      (λ p. let g : r ≡ None = rw p at e in
       let z : ◌≡◌ {A = ℕ} 0 1 = cc in
       absurd (omega arith))
 
-  pub nowhere_uncovered : r ≡ Nowhere → covered t x ≡ false
+  pub nowhere_uncovered : r ≡ None → covered t x ≡ false
   unfolding found_in covered
   nowhere_uncovered f =
       by_test (covered t x)
-      (λ p. let g : r ≡ At (cell_at t x) = rw p at e in
+      (λ p. let g : r ≡ Some (cell_at t x) = rw p at e in
       let z : ◌≡◌ {A = ℕ} 0 1 = cc in
       absurd (omega arith))
       (λ p. p)
@@ -157,39 +166,39 @@ abbrev pub other_holds : (m : ℕ) (rights : List ℕ) (c d k : ℕ) → Bool
 other_holds m rights c d k = not (eqb k d) && ltb 0 (get_or rights (c * m + k) 0)
 
 module _ (m : ℕ) (rights : List ℕ) (c d k : ℕ) (s : Searched (other_holds m rights c d) m k) where
-  pub other_here : k < m → other_holds m rights c d k ≡ true → Division k ≡ other_in m rights c d
+  pub other_here : k < m → other_holds m rights c d k ≡ true → Some k ≡ other_in m rights c d
   unfolding other_in other_holder
   other_here h e =
       let q : k ≡ lowest (other_holds m rights c d) m = searched_here _ _ _ s h e in
       rw (← q, lt-ltb k m h)
 
-  pub other_nobody : m ≤ k → Nobody ≡ other_in m rights c d
+  pub other_nobody : m ≤ k → None ≡ other_in m rights c d
   unfolding other_in other_holder
   other_nobody h =
       let q : k ≡ lowest (other_holds m rights c d) m = searched_all _ _ _ s h in
       rw (← q, le-ltb k m h)
 
+-- ---- a search that found nothing is refused
+
+pub lost : (f r : Refusal) (o : Option ℕ) → Err f ≡ ok_or o r → f ≡ r
+lost f r (Some k) e = let z : ◌≡◌ {A = ℕ} 0 1 = cc e in absurd (omega arith)
+lost f r None e = cc e
+
 -- ---- in a test's words
 
-module _ (m : ℕ) (rights : List ℕ) (c d : ℕ) where
-  pub somebody_else : (k : ℕ) → other_in m rights c d ≡ Division k → false ≡ eqb (other_holder m rights c d) m
-  unfolding other_in
-  somebody_else k e = go (ltb (other_holder m rights c d) m) refl e
-    where
-      go : (b : Bool) → ltb (other_holder m rights c d) m ≡ b → cond b (Division (other_holder m rights c d)) Nobody ≡ Division k
-          → false ≡ eqb (other_holder m rights c d) m
-      go true t f = sym (ne_eqb (other_holder m rights c d) m (λ q. omega (arith, ltb-true (other_holder m rights c d) m t)))
-      go false t f = let z : ◌≡◌ {A = ℕ} 0 1 = cc in absurd (omega arith)
+-- it is told whether there is another holder
+pub nobody_else_is : (m : ℕ) (rights : List ℕ) (c d : ℕ) (r : Bool) → is_some (other_in m rights c d) ≡ not r
+    → r ≡ eqb (other_holder m rights c d) m
+unfolding other_in other_holder
+nobody_else_is m rights c d r e = go (ltb (lowest (other_holds m rights c d) m) m) refl r e
+  where
+    l : lowest (other_holds m rights c d) m ≤ m
+    l = lowest_le _ m
 
-  pub nobody_at_all : other_in m rights c d ≡ Nobody → true ≡ eqb (other_holder m rights c d) m
-  unfolding other_in other_holder
-  nobody_at_all e = go (ltb (lowest (other_holds m rights c d) m) m) refl e
-    where
-      go : (b : Bool) → ltb (lowest (other_holds m rights c d) m) m ≡ b
-          → cond b (Division (lowest (other_holds m rights c d) m)) Nobody ≡ Nobody
-          → true ≡ eqb (lowest (other_holds m rights c d) m) m
-      go true t f = let z : ◌≡◌ {A = ℕ} 0 1 = cc in absurd (omega arith)
-      go false t f =
-          let h : m ≤ lowest (other_holds m rights c d) m = ltb-false _ _ t in
-          let l : lowest (other_holds m rights c d) m ≤ m = lowest_le _ m in
-          sym (eq-eqb (lowest (other_holds m rights c d) m) m (omega arith))
+    go : (b : Bool) → ltb (lowest (other_holds m rights c d) m) m ≡ b → (r : Bool)
+        → is_some (cond b (Some (lowest (other_holds m rights c d) m)) None) ≡ not r
+        → r ≡ eqb (lowest (other_holds m rights c d) m) m
+    go true t true f = absurd (true≢false f)
+    go true t false f = sym (ne_eqb _ m (λ q. omega (arith, ltb-true _ m t)))
+    go false t true f = sym (eq-eqb _ m (omega (arith, l, ltb-false _ m t)))
+    go false t false f = absurd (true≢false (sym f))

@@ -1,5 +1,6 @@
 -- Laws of one well-formed instruction, in the words of code that finds its cell, judges it and applies it.
 -- Assumes nothing.
+use Rattle.std.specs.Prelude.{Option, Some, None, Err}
 use Prim.Native.Nat.{ℕ, ◌≤◌}
 use mathlib.Core.Path.{◌≡◌, sym, ◌∙◌, subst}
 use mathlib.Core.List.{[]}
@@ -7,28 +8,28 @@ use mathlib.Core.Bool.{false}
 use native.Mathlib.Omega.{arith}
 use borrow.Author.Tests.{ne_eqb}
 use Rattle.rules.specs.Numbers.{State, Tables}
-use Rattle.rules.specs.Refusals.{not_covered, Check, first_failing, refused, answered}
+use Rattle.rules.specs.Refusals.{number_of, Check, first_failing, answered}
 use Rattle.rules.specs.Instructions.{address_of, covered, needs}
 use Rattle.rules.specs.Calls.{kind_checks, done_at}
 use Rattle.rules.specs.declared.Instruction.{Instruction}
 use Rattle.rules.specs.declared.Instruction.TheVariants.{Load, Store, Fetch, Switch, Protect, Grant, Receive, Transfer, Invalidate, Revalidate, Exclusive}
 use Rattle.rules.proofs.Checks.{Each, each_more, AllHold, accept_all, first_has, value_zero}
-use Rattle.monitor.specs.Ready.{kind_performed}
+use Rattle.rules.proofs.Refusing.{some_number, no_value}
+use Rattle.rules.specs.declared.Refusal.{Refusal}
+use Rattle.rules.specs.declared.Refusal.TheVariants.{NotCovered}
+use Rattle.monitor.specs.Ready.{gave, kind_performed}
 use Rattle.monitor.specs.Leaves.{found_in}
-use Rattle.monitor.specs.declared.find.Found.{Found}
-use Rattle.monitor.specs.declared.find.Found.TheVariants.{At, Nowhere}
 use Rattle.monitor.proofs.Searching.{FoundAt, found_at, nowhere_uncovered}
 
 -- ---- what the search for the cell says
 
 -- r is the answer of a search for the address of i
-pub found_for : (t : Tables) (i : Instruction) {r : Found} (x c : ℕ) → x ≡ address_of i → r ≡ found_in t.first t.last x → r ≡ At c
-    → FoundAt t (address_of i) c
-found_for t i x c a e f = subst (λ (k : ℕ). FoundAt t k c) a (found_at t x _ e c f)
+module _ (t : Tables) (i : Instruction) {r : Option ℕ} (x : ℕ) (a : x ≡ address_of i) (e : r ≡ found_in t.first t.last x) where
+  pub found_for : (c : ℕ) → r ≡ Some c → FoundAt t (address_of i) c
+  found_for c f = subst (λ (k : ℕ). FoundAt t k c) a (found_at t x _ e c f)
 
-pub found_nothing : (t : Tables) (i : Instruction) {r : Found} (x : ℕ) → x ≡ address_of i → r ≡ found_in t.first t.last x → r ≡ Nowhere
-    → covered t (address_of i) ≡ false
-found_nothing t i x a e f = subst (λ (k : ℕ). covered t k ≡ false) a (nowhere_uncovered t x _ e f)
+  pub found_nothing : r ≡ None → covered t (address_of i) ≡ false
+  found_nothing f = subst (λ (k : ℕ). covered t k ≡ false) a (nowhere_uncovered t x _ e f)
 
 -- ---- the checks from 6 on
 
@@ -49,7 +50,7 @@ needs_above t d c (Exclusive x) = (omega arith, (omega arith, tt))
 -- ---- what a well-formed instruction answers
 
 module _ (s : State) (i : Instruction) where
-  pub stepped_nowhere : covered s.lent (address_of i) ≡ false → refused s not_covered ≡ kind_performed s i
+  pub stepped_nowhere : covered s.lent (address_of i) ≡ false → gave (Err NotCovered) s.registers s.lent ≡ kind_performed s i
   unfolding answered kind_checks first_failing
   stepped_nowhere e = rw e
 
@@ -58,11 +59,12 @@ module _ (s : State) (i : Instruction) where
     unfolding kind_checks first_failing
     first_here = rw (f.covers, f.same) (sym q)
 
-    pub stepped_refused : (n ≡ 0 → ⊥) → record { number = n; value = 0; part = []; after = s } ≡ kind_performed s i
+    pub stepped_refused : (f : Refusal) → n ≡ number_of f → gave (Err f) s.registers s.lent ≡ kind_performed s i
     unfolding answered
-    stepped_refused h =
+    stepped_refused f e =
+        let h : n ≡ 0 → ⊥ = λ z. some_number f (sym e ∙ z) in
         let k : 7 ≤ n = subst (λ (j : ℕ). 7 ≤ j) (sym q) (first_has (λ j. 7 ≤ j) _ (needs_above s.lent s.registers.current c i) (λ z. h (q ∙ z))) in
-        rw (first_here, ne_eqb n 0 h, value_zero s.lent n (omega arith))
+        rw (no_value f (λ t. omega (arith, e, t, k)), ← e, first_here, ne_eqb n 0 h, value_zero s.lent n (omega arith))
 
     pub stepped_applied : n ≡ 0 → done_at s c i ≡ kind_performed s i
     unfolding answered

@@ -6,7 +6,10 @@ use Prim.Native.Nat.{ℕ}
 use mathlib.Core.Path.{◌≡◌, ap}
 use mathlib.Core.List.{List}
 use Rattle.rules.specs.Numbers.{Tables}
-use Rattle.rules.specs.Lent.{Slice, MutSlice, refers, Passed, lent_all, lent_block, rest_of}
+use Rattle.std.specs.Borrow.{MutBor}
+use Rattle.rules.specs.Lent.{Slice, MutSlice, refers, lent, lent_mut}
+use Rattle.rules.specs.declared.TablesMut.{TablesMut as LentTablesMut}
+use Rattle.rules.proofs.Refusing.{one_answer}
 use Rattle.rules.specs.declared.Registers.{Registers}
 use Rattle.rules.proofs.Laws.{one_outcome}
 use Rattle.monitor.specs.Answers.{came}
@@ -18,17 +21,13 @@ use Rattle.monitor.proofs.view_answer.Reads as view-answer-reads
 use Rattle.monitor.proofs.view_place.Reads as view-place-reads
 use Rattle.monitor.proofs.view.Reads as view-reads
 
--- the lists at exit, with the M that was passed, of a call that may write the marks, the rights, the grants and the memory
-abbrev pub lists : {Rest End : Type 0} → Passed MutSlice MutSlice Rest → Passed MutSlice MutSlice End → Tables
-lists a s = lent_all (a.0, s.1)
+-- the lists at exit of a call that may write the marks, the rights, the grants and the memory; and that they are those it was lent
+abbrev pub lists : {Rest : Type 0} → MutBor LentTablesMut × (MutSlice × Rest) → Tables
+lists s = lent_mut s.0.now s.1.0.now
 
--- the same of `write_block`, which may write the memory alone
-abbrev pub block_lists : {Rest End : Type 0} → Passed Slice MutSlice Rest → Passed Slice MutSlice End → Tables
-block_lists a s = lent_block (a.0, s.1)
-
--- of `execute_all`, whose rest is the registers, the instructions and the lists of answers: both of these at exit
-abbrev pub answers : Passed MutSlice MutSlice (Registers × (Slice × (MutSlice × (MutSlice × Unit {0})))) → List ℕ × List ℕ
-answers s = ((rest_of s).1.1.0.now, (rest_of s).1.1.1.0.now)
+-- of `execute_all`: both lists of answers at exit
+abbrev pub answers : MutBor LentTablesMut × (MutSlice × (Registers × (Slice × (MutSlice × (MutSlice × Unit {0}))))) → List ℕ × List ℕ
+answers s = (s.1.1.1.1.0.now, s.1.1.1.1.1.0.now)
 
 -- ---- one outcome
 
@@ -37,7 +36,7 @@ pub same_reply : {r q : Reply} {t u : Tables} → came r t ≡ came q u → r �
 same_reply e = λ i. record { number = (e i).number; value = (e i).value; registers = (e i).after.registers }
 
 pub view_answer_unique : (κs : _) (a : _) (r q : _) (s u : _) → view-answer-reads.Post κs a r s → view-answer-reads.Post κs a q u → r ≡ q
-view_answer_unique κs a r q s u = one_outcome
+view_answer_unique κs a r q s u e f = one_answer r q (one_outcome e f)
 
 -- the same reference: it points to the same place, and the same bytes stand there
 pub view_unique : (κs : _) (a : _) (r q : _) (s u : _) → view-reads.Post κs a r s → view-reads.Post κs a q u → refers r ≡ refers q
@@ -45,18 +44,18 @@ view_unique κs a r q s u = one_outcome
 
 -- the reply and every lent list at exit
 pub execute_unique : (κs : _) (a : _) (r q : _) (s u : _) → execute-reads.Post κs a r s → execute-reads.Post κs a q u
-    → (r ≡ q) × (lists a s ≡ lists a u)
-execute_unique κs a r q s u e f = (same_reply (one_outcome e f), ap (λ o. o.after.lent) (one_outcome e f))
+    → (r ≡ q) × (lists s ≡ lists u)
+execute_unique κs a r q s u e f = (same_reply (one_outcome e.0 f.0), ap (λ o. o.after.lent) (one_outcome e.0 f.0))
 
 pub write_block_unique : (κs : _) (a : _) (r q : _) (s u : _) → write-block-reads.Post κs a r s → write-block-reads.Post κs a q u
-    → (r ≡ q) × (block_lists a s ≡ block_lists a u)
+    → (r ≡ q) × (lent a.0 s.1.0.now ≡ lent a.0 u.1.0.now)
 write_block_unique κs a r q s u e f = (same_reply (one_outcome e f), ap (λ o. o.after.lent) (one_outcome e f))
 
 -- the registers, every lent list, and both lists of answers
 pub execute_all_unique : (κs : _) (a : _) (r q : _) (s u : _) → execute-all-reads.Post κs a r s → execute-all-reads.Post κs a q u
-    → (r ≡ q) × (lists a s ≡ lists a u) × (answers s ≡ answers u)
+    → (r ≡ q) × (lists s ≡ lists u) × (answers s ≡ answers u)
 execute_all_unique κs a r q s u e f =
-    let o = one_outcome e f in
+    let o = one_outcome e.0 f.0 in
     (ap (λ p. p.after.registers) o, ap (λ p. p.after.lent) o, λ i. ((o i).numbers, (o i).values))
 
 pub view_place_unique : (κs : _) (a : _) (r q : _) (s u : _) → view-place-reads.Post κs a r s → view-place-reads.Post κs a q u → r ≡ q

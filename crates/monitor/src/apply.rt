@@ -1,47 +1,15 @@
 // What an accepted instruction does. These only write, and cannot refuse.
 ghost use Rattle.std.specs.Prelude.{◌≡◌, ◌+◌, ◌-◌, ◌*◌, ◌≤◌, ◌<◌, length, get_or, set};
-ghost use Rattle.rules.specs.Numbers.{tables, state, join, grant_entry, rights_in};
+ghost use Rattle.rules.specs.Lent.{lent_mut, SameLists};
+ghost use Rattle.rules.specs.Numbers.{state, join, grant_entry, rights_in};
 ghost use Rattle.rules.specs.Instructions.{needs};
 ghost use Rattle.rules.specs.Calls.{done_at};
 ghost use Rattle.rules.proofs.Checks.{AllHold};
-ghost use Rattle.monitor.specs.Answers.{came};
-ghost use Rattle.monitor.specs.Ready.{Ready};
+ghost use Rattle.monitor.specs.Ready.{Ready, accepted_as};
 
-use crate::look::{byte_in, grant_at, held_at, nobody_else, place_of, word_in};
-use crate::reply::{Reply, accept};
-use rules::{Instruction, Registers};
-
-// The byte at a place becomes `y`.
-fn put_byte(memory: &mut [u8], place: usize, y: u8)
-    requires { place < length memory.old }
-    ensures { memory.new ≡ set memory.old place y }
-{
-    memory[place] = y;
-}
-
-// The rights of `d` on cell `c` become `p`.
-fn put_rights(m: usize, rights: &mut [u8], c: usize, d: usize, p: u8)
-    requires { c * m + d < length rights.old }
-    ensures { rights.new ≡ set rights.old (c * m + d) p }
-{
-    rights[c * m + d] = p;
-}
-
-// The grant entry of `d` on cell `c` becomes `g`.
-fn put_grant(m: usize, grants: &mut [u16], c: usize, d: usize, g: u16)
-    requires { c * m + d < length grants.old }
-    ensures { grants.new ≡ set grants.old (c * m + d) g }
-{
-    grants[c * m + d] = g;
-}
-
-// The mark of cell `c` becomes `k`.
-fn put_mark(marks: &mut [u8], c: usize, k: u8)
-    requires { c < length marks.old }
-    ensures { marks.new ≡ set marks.old c k }
-{
-    marks[c] = k;
-}
+use crate::look::{held_at, nobody_else, place_of, word_in};
+use crate::reply::Accepted;
+use rules::{Instruction, Registers, TablesMut};
 
 // The entry of a grant of rights `z` to `y`.
 fn grant_entry(y: u32, z: u8) -> u16
@@ -58,68 +26,102 @@ fn take_grant(m: usize, rights: &mut [u8], grants: &mut [u16], c: usize, d: usiz
     ensures rights_after { rights.new ≡ set rights.old (c * m + d) result }
     ensures grants_after { grants.new ≡ set grants.old (c * m + y) 0 }
 {
-    let held = held_at(m, rights, c, d);
-    let granted = (grant_at(m, grants, c, y) / 256) as u8;
-    let joined = rules::join_of(held, granted);
-    put_rights(m, rights, c, d, joined);
-    put_grant(m, grants, c, y, 0);
+    let granted = (grants[c * m + y] / 256) as u8;
+    let joined = rules::join_of(rights[c * m + d], granted);
+    rights[c * m + d] = joined;
+    grants[c * m + y] = 0;
     joined
 }
 
 // What an instruction does on the cell `c` that covers its address, once all its checks hold.
 pub fn apply(
-    m: usize,
-    first: &[u32],
-    last: &[u32],
-    offset: &[u32],
-    marks: &mut [u8],
-    rights: &mut [u8],
-    grants: &mut [u16],
+    tables: &mut TablesMut,
     memory: &mut [u8],
     registers: Registers,
     c: usize,
     i: Instruction,
-) -> Reply
-    requires ready { Ready (state (tables m first.now last.now offset.now marks.old rights.old grants.old memory.old) registers) i c }
-    requires all_hold { AllHold (needs (tables m first.now last.now offset.now marks.old rights.old grants.old memory.old) registers.current c i) }
-    ensures { came result (tables m first.exit.now last.exit.now offset.exit.now marks.new rights.new grants.new memory.new)
-        ≡ done_at (state (tables m first.now last.now offset.now marks.old rights.old grants.old memory.old) registers) c i }
+) -> Accepted
+    requires ready { Ready (state (lent_mut tables.old memory.old) registers) i c }
+    requires all_hold { AllHold (needs (lent_mut tables.old memory.old) registers.current c i) }
+    ensures done { accepted_as result (lent_mut tables.new memory.new) ≡ done_at (state (lent_mut tables.old memory.old) registers) c i }
+    ensures same_lists { SameLists tables.old tables.new }
 {
     let d = registers.current as usize;
-    let held = held_at(m, rights, c, d);
+    let own = c * tables.m + d;
+    let now = tables.tables();
+    let held = held_at(now, c, d);
     match i {
-        Instruction::Load(x) => accept(byte_in(memory, place_of(first, offset, c, x)), registers),
-        Instruction::Store(x, y) => {
-            put_byte(memory, place_of(first, offset, c, x), y);
-            accept(0, registers)
+        Instruction::Load(x) => {
+            let place = place_of(now, c, x);
+            let value = memory[place] as u32;
+            Accepted { value, registers }
         }
-        Instruction::Fetch(x) => accept(word_in(memory, place_of(first, offset, c, x)), registers),
-        Instruction::Switch(x, y) => accept(registers.current, registers.after_switch(y, x)),
+        Instruction::Store(x, y) => {
+            let place = place_of(now, c, x);
+            memory[place] = y;
+            Accepted {
+                value: 0,
+                registers,
+            }
+        }
+        Instruction::Fetch(x) => {
+            let place = place_of(now, c, x);
+            let value = word_in(memory, place);
+            Accepted { value, registers }
+        }
+        Instruction::Switch(x, y) => Accepted {
+            value: registers.current,
+            registers: registers.after_switch(y, x),
+        },
         Instruction::Protect(_, y) => {
-            put_rights(m, rights, c, d, y);
-            accept(y as u32, registers)
+            tables.rights[own] = y;
+            Accepted {
+                value: y as u32,
+                registers,
+            }
         }
         Instruction::Grant(_, y, z) => {
-            put_grant(m, grants, c, d, grant_entry(y, z));
-            accept(held as u32, registers)
+            tables.grants[own] = grant_entry(y, z);
+            Accepted {
+                value: held as u32,
+                registers,
+            }
         }
-        Instruction::Receive(_, y) => accept(
-            take_grant(m, rights, grants, c, d, y as usize) as u32,
-            registers,
-        ),
+        Instruction::Receive(_, y) => {
+            let joined = take_grant(tables.m, tables.rights, tables.grants, c, d, y as usize);
+            Accepted {
+                value: joined as u32,
+                registers,
+            }
+        }
         Instruction::Transfer(_, y, z) => {
-            put_grant(m, grants, c, d, grant_entry(y, z));
-            put_rights(m, rights, c, d, 0);
-            accept(0, registers)
+            tables.grants[own] = grant_entry(y, z);
+            tables.rights[own] = 0;
+            Accepted {
+                value: 0,
+                registers,
+            }
         }
         Instruction::Invalidate(_) => {
-            put_mark(marks, c, 0);
-            accept(held as u32, registers)
+            tables.marks[c] = 0;
+            Accepted {
+                value: held as u32,
+                registers,
+            }
         }
         Instruction::Revalidate(_) => {
-            put_mark(marks, c, 1);
-            accept(held as u32, registers)
+            tables.marks[c] = 1;
+            Accepted {
+                value: held as u32,
+                registers,
+            }
         }
-        Instruction::Exclusive(_) => accept(nobody_else(m, rights, c, d) as u32, registers),
+        Instruction::Exclusive(_) => {
+            let alone = nobody_else(now, c, d);
+            Accepted {
+                value: alone as u32,
+                registers,
+            }
+        }
     }
 }

@@ -1,21 +1,15 @@
 // Blocks of bytes: where one lies, and how it is filled.
 ghost use Rattle.std.specs.Prelude.{◌≡◌, length};
-ghost use Rattle.rules.specs.Numbers.{tables, state};
+ghost use Rattle.rules.specs.Lent.{lent};
+ghost use Rattle.rules.specs.Numbers.{state};
 ghost use Rattle.rules.specs.Blocks.{within_cell};
 ghost use Rattle.rules.proofs.Kept.{Begun};
-ghost use Rattle.monitor.specs.Leaves.{located_in};
+ghost use Rattle.monitor.specs.Leaves.{located, located_in};
 
-use crate::find::{Found, find};
+use crate::find::find;
 use crate::judge::judge_whole;
 use crate::look::{held_at, place_of};
-use rules::{Answer, Registers};
-
-// Where a block begins in memory, or the refusal of the first check to fail.
-#[derive(Clone, Copy)]
-pub enum Located {
-    At(usize),
-    Refused(Answer),
-}
+use rules::{Refusal, Registers, Tables};
 
 // Whether `n` bytes from `x` on do not run past `last`. The sum cannot wrap: it has 64 bits, and is made only for a block
 // of no more bytes than there are addresses.
@@ -34,40 +28,20 @@ pub fn within_cell(last: u32, x: u32, n: usize) -> bool
 // Checks 6 to 9 on a block of `n` bytes at `x`, with the right `needed`; its place where they hold.
 pub fn locate(
     needed: u8,
-    m: usize,
-    first: &[u32],
-    last: &[u32],
-    offset: &[u32],
-    marks: &[u8],
-    rights: &[u8],
-    grants: &[u16],
+    tables: Tables,
     memory: &[u8],
     registers: Registers,
     x: u32,
     n: usize,
-) -> Located
-    requires { Begun (state (tables m first.now last.now offset.now marks.now rights.now grants.now memory.now) registers) }
-    ensures { result ≡ located_in needed (state (tables m first.now last.now offset.now marks.now rights.now grants.now memory.now) registers) x n }
+) -> Result<usize, Refusal>
+    requires { Begun (state (lent tables memory.now) registers) }
+    ensures { located result ≡ located_in needed (state (lent tables.entry memory.now) registers) x n }
 {
-    let f = find(first, last, x);
-    match f {
-        Found::Nowhere => Located::Refused(Answer {
-            number: rules::NOT_COVERED,
-            value: 0,
-        }),
-        Found::At(c) => {
-            let held = held_at(m, rights, c, registers.current as usize);
-            let k = judge_whole(marks[c] == 1, within_cell(last[c], x, n), needed, held);
-            if k == 0 {
-                Located::At(place_of(first, offset, c, x))
-            } else {
-                Located::Refused(Answer {
-                    number: k,
-                    value: 0,
-                })
-            }
-        }
-    }
+    let c = find(tables.first, tables.last, x).ok_or(Refusal::NotCovered)?;
+    let held = held_at(tables, c, registers.current as usize);
+    let within = within_cell(tables.last[c], x, n);
+    judge_whole(tables.marks[c] == 1, within, needed, held)?;
+    Ok(place_of(tables, c, x))
 }
 
 // Fills a part of the memory with as many bytes.
@@ -75,9 +49,5 @@ pub fn copy_into(part: &mut [u8], bytes: &[u8])
     requires { length bytes.now ≡ length part.old }
     ensures { part.new ≡ bytes.now }
 {
-    let mut i = 0;
-    while i < bytes.len() {
-        part[i] = bytes[i];
-        i += 1;
-    }
+    part.copy_from_slice(bytes);
 }

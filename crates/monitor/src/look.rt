@@ -3,33 +3,29 @@ ghost use Rattle.std.specs.Prelude.{◌≡◌, true, ◌&&◌, ◌+◌, ◌-◌,
 ghost use Rattle.rules.specs.Instructions.{word_in, whole_word, entry_word, grant_names, other_holder};
 ghost use Rattle.monitor.specs.Leaves.{other_in};
 
+use rules::Tables;
+
 // The word at which a switch may enter a division: bytes 11, 0, 0, 0.
 const ENTRY_WORD: u32 = 11;
 
-// Another division that holds a right, or nobody.
-#[derive(Clone, Copy)]
-pub enum Holder {
-    Division(usize),
-    Nobody,
-}
-
 // The rights of division `d` on cell `c`.
-pub fn held_at(m: usize, rights: &[u8], c: usize, d: usize) -> u8
-    requires { c * m + d < length rights.now }
-    ensures { result ≡ get_or rights.now (c * m + d) 0 }
+pub fn held_at(tables: Tables, c: usize, d: usize) -> u8
+    requires { c * tables.m + d < length tables.rights.now }
+    ensures { result ≡ get_or tables.entry.rights.now (c * tables.entry.m + d) 0 }
 {
-    rights[c * m + d]
+    tables.rights[c * tables.m + d]
 }
 
 // The grant entry of the granter `d` on cell `c`.
-pub fn grant_at(m: usize, grants: &[u16], c: usize, d: usize) -> u16
-    requires { c * m + d < length grants.now }
-    ensures { result ≡ get_or grants.now (c * m + d) 0 }
+pub fn grant_at(tables: Tables, c: usize, d: usize) -> u16
+    requires { c * tables.m + d < length tables.grants.now }
+    ensures { result ≡ get_or tables.entry.grants.now (c * tables.entry.m + d) 0 }
 {
-    grants[c * m + d]
+    tables.grants[c * tables.m + d]
 }
 
 // Whether the entry `g` is a grant that names `d`. An entry of 0 is none, though its target would read as division 0.
+#[tactic(auto, unfolding(rules::specs::Instructions::grant_names))]
 pub fn grant_names(g: u16, d: u32) -> bool
     ensures { result ≡ grant_names g d }
 {
@@ -37,11 +33,11 @@ pub fn grant_names(g: u16, d: u32) -> bool
 }
 
 // The place in memory of the byte at `x`, in the cell `c` that covers it.
-pub fn place_of(first: &[u32], offset: &[u32], c: usize, x: u32) -> usize
-    requires { (c < length first.now) × ((c < length offset.now) × (get_or first.now c 0 ≤ x)) }
-    ensures { result ≡ get_or offset.now c 0 + x - get_or first.now c 0 }
+pub fn place_of(tables: Tables, c: usize, x: u32) -> usize
+    requires { (c < length tables.first.now) × ((c < length tables.offset.now) × (get_or tables.first.now c 0 ≤ x)) }
+    ensures { result ≡ get_or tables.entry.offset.now c 0 + x - get_or tables.entry.first.now c 0 }
 {
-    offset[c] as usize + (x - first[c]) as usize
+    tables.offset[c] as usize + (x - tables.first[c]) as usize
 }
 
 // Whether the word at `x` is whole in a cell that ends with `last`. The difference cannot wrap, as a sum could.
@@ -52,66 +48,46 @@ pub fn whole_word(last: u32, x: u32) -> bool
     (x % 4 == 0) & (3 <= last - x)
 }
 
-// The byte at a place in memory, as wide as a word.
-pub fn byte_in(memory: &[u8], place: usize) -> u32
-    requires { place < length memory.now }
-    ensures { (result ≡ get_or memory.now place 0) × (result < 256) }
-{
-    memory[place] as u32
-}
-
 // The word at a place in memory, low byte first.
+#[tactic(auto, unfolding(rules::specs::Instructions::word_in))]
 pub fn word_in(memory: &[u8], place: usize) -> u32
     requires { place + 3 < length memory.now }
     ensures { result ≡ word_in memory.now place }
 {
-    let low = byte_in(memory, place) + 256 * byte_in(memory, place + 1);
-    low + 65536 * byte_in(memory, place + 2) + 16777216 * byte_in(memory, place + 3)
+    u32::from_le_bytes([
+        memory[place],
+        memory[place + 1],
+        memory[place + 2],
+        memory[place + 3],
+    ])
 }
 
 // The lowest division but `d` that holds a right on cell `c`.
-pub fn other_holder(m: usize, rights: &[u8], c: usize, d: usize) -> Holder
-    requires { c * m + m ≤ length rights.now }
-    ensures { result ≡ other_in m rights.now c d }
+pub fn other_holder(tables: Tables, c: usize, d: usize) -> Option<usize>
+    requires { c * tables.m + tables.m ≤ length tables.rights.now }
+    ensures { result ≡ other_in tables.entry.m tables.entry.rights.now c d }
 {
-    let mut k = 0;
-    while k < m {
-        if (k != d) & (0 < rights[c * m + k]) {
-            return Holder::Division(k);
+    for k in 0..tables.m {
+        if (k != d) & (0 < tables.rights[c * tables.m + k]) {
+            return Some(k);
         }
-        k += 1;
     }
-    Holder::Nobody
+    None
 }
 
 // Whether nobody but `d` holds a right on cell `c`.
-pub fn nobody_else(m: usize, rights: &[u8], c: usize, d: usize) -> bool
-    requires { c * m + m ≤ length rights.now }
-    ensures { result ≡ eqb (other_holder m rights.now c d) m }
+pub fn nobody_else(tables: Tables, c: usize, d: usize) -> bool
+    requires { c * tables.m + tables.m ≤ length tables.rights.now }
+    ensures { result ≡ eqb (other_holder tables.entry.m tables.entry.rights.now c d) tables.entry.m }
 {
-    let h = other_holder(m, rights, c, d);
-    match h {
-        Holder::Division(_) => false,
-        Holder::Nobody => true,
-    }
+    other_holder(tables, c, d).is_none()
 }
 
 // Whether the word at `x` is whole and is the entry word. The memory is looked at only for a whole word.
-pub fn entry_word(
-    first: &[u32],
-    offset: &[u32],
-    memory: &[u8],
-    whole: bool,
-    c: usize,
-    x: u32,
-) -> bool
-    requires inside { (c < length first.now) × ((c < length offset.now) × (get_or first.now c 0 ≤ x)) }
-    requires whole_inside { whole ≡ true → get_or offset.now c 0 + x - get_or first.now c 0 + 3 < length memory.now }
-    ensures { result ≡ (whole && eqb (word_in memory.now (get_or offset.now c 0 + x - get_or first.now c 0)) entry_word) }
+pub fn entry_word(tables: Tables, memory: &[u8], whole: bool, c: usize, x: u32) -> bool
+    requires inside { (c < length tables.first.now) × ((c < length tables.offset.now) × (get_or tables.first.now c 0 ≤ x)) }
+    requires whole_inside { whole ≡ true → get_or tables.offset.now c 0 + x - get_or tables.first.now c 0 + 3 < length memory.now }
+    ensures { result ≡ (whole && eqb (word_in memory.now (get_or tables.entry.offset.now c 0 + x - get_or tables.entry.first.now c 0)) entry_word) }
 {
-    if whole {
-        word_in(memory, place_of(first, offset, c, x)) == ENTRY_WORD
-    } else {
-        false
-    }
+    whole && word_in(memory, place_of(tables, c, x)) == ENTRY_WORD
 }

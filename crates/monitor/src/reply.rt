@@ -1,11 +1,12 @@
 // What a call hands back.
 ghost use Rattle.std.specs.Prelude.{◌≡◌};
+ghost use Rattle.monitor.specs.Ready.{replied};
 
-use rules::Registers;
+use rules::{Refusal, Registers};
 
 // What a call answers: a number of the refusal list, 0 for acceptance, the value that goes with it, and the registers.
 #[repr(C)]
-#[derive(Clone, Copy)]
+#[derive(Clone, Copy, PartialEq, Eq)]
 pub struct Reply {
     pub number: u32,
     pub value: u32,
@@ -14,7 +15,7 @@ pub struct Reply {
 
 // A read view's number and value, where its part begins in the memory, and how many bytes it has; both 0 on a refusal.
 #[repr(C)]
-#[derive(Clone, Copy)]
+#[derive(Clone, Copy, PartialEq, Eq)]
 pub struct ViewPlace {
     pub number: u32,
     pub value: u32,
@@ -22,24 +23,29 @@ pub struct ViewPlace {
     pub count: usize,
 }
 
-// An acceptance with its value, and the registers afterwards.
-pub fn accept(value: u32, registers: Registers) -> Reply
-    ensures { result ≡ record { number = 0; value = value; registers = registers } }
-{
-    Reply {
-        number: 0,
-        value: value,
-        registers: registers,
-    }
+// An acceptance: its value, and the registers afterwards.
+#[derive(Clone, Copy)]
+pub struct Accepted {
+    pub value: u32,
+    pub registers: Registers,
 }
 
-// A refusal with its value, and the registers as they were.
-pub fn refuse(number: u32, value: u32, registers: Registers) -> Reply
-    ensures { result ≡ record { number = number; value = value; registers = registers } }
-{
-    Reply {
-        number: number,
-        value: value,
-        registers: registers,
+impl Reply {
+    // The reply to a call: a refusal leaves the registers as they were.
+    pub fn new(answer: Result<Accepted, Refusal>, before: Registers) -> Reply
+        ensures { result ≡ replied answer before }
+    {
+        match answer {
+            Ok(accepted) => Reply {
+                number: 0,
+                value: accepted.value,
+                registers: accepted.registers,
+            },
+            Err(refusal) => Reply {
+                number: refusal.number(),
+                value: refusal.value(),
+                registers: before,
+            },
+        }
     }
 }

@@ -1,19 +1,19 @@
 // One well-formed instruction: the cell that covers its address is found, its checks are made, and then it is done.
 ghost use Rattle.std.specs.Prelude.{◌≡◌};
-ghost use Rattle.rules.specs.Numbers.{tables, state};
-ghost use Rattle.rules.specs.Instructions.{address_of};
+ghost use Rattle.rules.specs.Lent.{lent_mut, SameLists};
+ghost use Rattle.rules.specs.Numbers.{state};
 ghost use Rattle.rules.specs.Calls.{instruction, performed};
 ghost use Rattle.rules.proofs.Decoding.{InRange};
 ghost use Rattle.rules.proofs.Kept.{Begun};
 ghost use Rattle.monitor.specs.Answers.{came};
-ghost use Rattle.monitor.specs.Ready.{kind_performed};
+ghost use Rattle.monitor.specs.Ready.{gave, kind_performed};
 ghost use Rattle.monitor.specs.Runs.{listed};
 
 use crate::apply::apply;
-use crate::find::{Found, find};
+use crate::find::find;
 use crate::judge::judge;
-use crate::reply::{Reply, refuse};
-use rules::{Decoded, Instruction, Registers};
+use crate::reply::{Accepted, Reply};
+use rules::{Instruction, Refusal, Registers, TablesMut};
 
 // A reply beside the listing position of its instruction.
 #[derive(Clone, Copy)]
@@ -22,71 +22,27 @@ pub struct Answered {
     pub reply: Reply,
 }
 
-// An instruction's address.
-fn address_of(i: Instruction) -> u32
-    ensures { result ≡ address_of i }
-{
-    match i {
-        Instruction::Load(x) => x,
-        Instruction::Store(x, _) => x,
-        Instruction::Fetch(x) => x,
-        Instruction::Switch(x, _) => x,
-        Instruction::Protect(x, _) => x,
-        Instruction::Grant(x, _, _) => x,
-        Instruction::Receive(x, _) => x,
-        Instruction::Transfer(x, _, _) => x,
-        Instruction::Invalidate(x) => x,
-        Instruction::Revalidate(x) => x,
-        Instruction::Exclusive(x) => x,
-    }
-}
-
 // What a well-formed instruction answers and does, on tables and registers that checks 1, 2 and 3 let through.
 pub fn step(
-    m: usize,
-    first: &[u32],
-    last: &[u32],
-    offset: &[u32],
-    marks: &mut [u8],
-    rights: &mut [u8],
-    grants: &mut [u16],
+    tables: &mut TablesMut,
     memory: &mut [u8],
     registers: Registers,
     i: Instruction,
-) -> Reply
-    requires begun { Begun (state (tables m first.now last.now offset.now marks.old rights.old grants.old memory.old) registers) }
-    requires in_range { InRange m registers.current i }
-    ensures { came result (tables m first.exit.now last.exit.now offset.exit.now marks.new rights.new grants.new memory.new)
-        ≡ kind_performed (state (tables m first.now last.now offset.now marks.old rights.old grants.old memory.old) registers) i }
+) -> Result<Accepted, Refusal>
+    requires begun { Begun (state (lent_mut tables.old memory.old) registers) }
+    requires in_range { InRange tables.old.m registers.current i }
+    ensures done { gave result registers (lent_mut tables.new memory.new) ≡ kind_performed (state (lent_mut tables.old memory.old) registers) i }
+    ensures same_lists { SameLists tables.old tables.new }
 {
-    let f = find(first, last, address_of(i));
-    match f {
-        Found::Nowhere => refuse(rules::NOT_COVERED, 0, registers),
-        Found::At(c) => {
-            let n = judge(
-                m, first, last, offset, marks, rights, grants, memory, registers, c, i,
-            );
-            if n == 0 {
-                apply(
-                    m, first, last, offset, marks, rights, grants, memory, registers, c, i,
-                )
-            } else {
-                refuse(n, 0, registers)
-            }
-        }
-    }
+    let c = find(tables.first, tables.last, i.address()).ok_or(Refusal::NotCovered)?;
+    judge(tables.tables(), memory, registers, c, i)?;
+    Ok(apply(tables, memory, registers, c, i))
 }
 
 // What four numbers at a listing position answer and do, on tables and registers that checks 1, 2 and 3 let through. The
 // answer stays beside the position, so that it is written where it belongs.
 pub fn perform(
-    m: usize,
-    first: &[u32],
-    last: &[u32],
-    offset: &[u32],
-    marks: &mut [u8],
-    rights: &mut [u8],
-    grants: &mut [u16],
+    tables: &mut TablesMut,
     memory: &mut [u8],
     registers: Registers,
     position: usize,
@@ -95,25 +51,23 @@ pub fn perform(
     y: u32,
     z: u32,
 ) -> Answered
-    requires { Begun (state (tables m first.now last.now offset.now marks.old rights.old grants.old memory.old) registers) }
-    ensures { listed result.position (came result.reply (tables m first.exit.now last.exit.now offset.exit.now marks.new rights.new grants.new memory.new))
-        ≡ listed position (performed (state (tables m first.now last.now offset.now marks.old rights.old grants.old memory.old) registers) (instruction number x y z)) }
+    requires { Begun (state (lent_mut tables.old memory.old) registers) }
+    ensures done { listed result.position (came result.reply (lent_mut tables.new memory.new))
+        ≡ listed position (performed (state (lent_mut tables.old memory.old) registers) (instruction number x y z)) }
+    ensures same_lists { SameLists tables.old tables.new }
 {
-    let decoded = rules::decode(m as u32, registers.current, position, number, x, y, z);
-    match decoded {
-        Decoded::Refused(k) => Answered {
-            position: position,
-            reply: refuse(k, 0, registers),
-        },
-        Decoded::Kind(placed) => {
-            let i = placed.instruction;
-            let reply = step(
-                m, first, last, offset, marks, rights, grants, memory, registers, i,
-            );
+    let m = tables.m as u32;
+    match rules::decode(m, registers.current, position, number, x, y, z) {
+        Ok(placed) => {
+            let answer = step(tables, memory, registers, placed.instruction);
             Answered {
                 position: placed.position,
-                reply: reply,
+                reply: Reply::new(answer, registers),
             }
         }
+        Err(refusal) => Answered {
+            position,
+            reply: Reply::new(Err(refusal), registers),
+        },
     }
 }

@@ -70,7 +70,7 @@ some_number NotEntry e = omega (arith, e)
 some_number SameRights e = omega (arith, e)
 
 -- only the second has a value
-no_value : (r : Refusal) → (number_of r ≡ 2 → ⊥) → value_with r ≡ 0
+pub no_value : (r : Refusal) → (number_of r ≡ 2 → ⊥) → value_with r ≡ 0
 no_value OutOfBounds h = refl
 no_value (Unsound c) h = absurd (h refl)
 no_value NoSuchDivision h = refl

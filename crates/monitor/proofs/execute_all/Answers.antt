@@ -1,19 +1,22 @@
 -- Checks 1, 2 and 3 once, and then the list, or every answer filled with their refusal.
 use Prim.Native.Nat.{◌≤◌, ◌*◌}
+use mathlib.Core.Path.{refl}
 use native.Mathlib.Omega.{arith}
 use lib.ListN.{length}
+use Rattle.rules.proofs.Refusing.{some_number}
 use Rattle.monitor.proofs.Beginning.{first_begun}
+use Rattle.monitor.proofs.Readiness.{seen_first}
 use Rattle.monitor.proofs.Running.{room_whole, room_numbers, room_values, ran_as, refused_ran}
 use Rattle.monitor.proofs.execute_all.Goals as goal
-use Rattle.monitor.proofs.execute_all.Goals.{After-begin-begun, Start}
+use Rattle.monitor.proofs.execute_all.Goals.{After-room_for-count}
 
 -- the three lists lent beside the tables are long enough for the count
-record Room (c : After-begin-begun) : Type 0 where
+record Room (c : After-room_for-count) : Type 0 where
   whole : 4 * c.room_for-count.result ≤ length c.args.instructions.now
   numbered : c.room_for-count.result ≤ length c.args.numbers.now
   valued : c.room_for-count.result ≤ length c.args.values.now
 
-room : (c : After-begin-begun) → Room c
+room : (c : After-room_for-count) → Room c
 room c =
     let i = length c.args.instructions.now in
     let n = length c.args.numbers.now in
@@ -26,30 +29,26 @@ room c =
 
 pub run_list-requires : goal.run_list-requires
 run_list-requires c =
-    let checked = (goal.at.run_list-requires c).After-begin-begun in
-    let r = room checked in
+    let r = room (goal.at.run_list-requires c).After-room_for-count in
     record {
-      begun = first_begun _ _ c.begin-begun.ensures c.if-n-eq0.true;
+      begun = first_begun _ _ (seen_first _ _ c.tables.ensures c.args.memory.now c.args.registers c.in-Ok.ensures) refl;
       room = (r.whole, (r.numbered, r.valued));
     }
 
 pub fill-requires : goal.fill-requires
-fill-requires c =
-    let checked = (goal.at.fill-requires c).After-begin-begun in
-    (room checked).numbered
+fill-requires c = (room (goal.at.fill-requires c).After-room_for-count).numbered
 
-pub fill-requires-else-n-eq0 : goal.fill-requires-else-n-eq0
-fill-requires-else-n-eq0 c =
-    let checked = (goal.at.fill-requires-else-n-eq0 c).After-begin-begun in
-    (room checked).valued
+pub fill-requires-in-Err : goal.fill-requires-in-Err
+fill-requires-in-Err c = (room (goal.at.fill-requires-in-Err c).After-room_for-count).valued
 
-pub returns-then-n-eq0 : goal.returns-then-n-eq0
-returns-then-n-eq0 c =
+pub returns-in-Ok-clause-answers : goal.returns-in-Ok-clause-answers
+returns-in-Ok-clause-answers c =
+    ran_as _ c.args.instructions.now c.args.numbers.now c.args.values.now c.room_for-count.ensures c.run_list.ensures.answers
+
+pub returns-in-Err-clause-answers : goal.returns-in-Err-clause-answers
+returns-in-Err-clause-answers c =
     let l = c.args.instructions.now in
-    ran_as _ l c.args.numbers.now c.args.values.now c.room_for-count.ensures c.run_list.ensures
-
-pub returns-else-n-eq0 : goal.returns-else-n-eq0
-returns-else-n-eq0 c =
-    let l = c.args.instructions.now in
+    let first = seen_first _ _ c.tables.ensures c.args.memory.now c.args.registers c.in-Err.ensures in
     ran_as _ l c.args.numbers.now c.args.values.now c.room_for-count.ensures
-    (refused_ran _ _ c.begin-begun.ensures c.if-n-eq0.false l _ c.args.numbers.now c.args.values.now c.fill.ensures c.fill-else-n-eq0.ensures)
+    (refused_ran _ _ first (some_number c.in-Err.refusal) l _ c.args.numbers.now c.args.values.now
+      (rw (← c.number.ensures) c.fill.ensures) (rw (← c.value.ensures) c.fill-in-Err.ensures))

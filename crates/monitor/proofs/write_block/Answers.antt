@@ -1,23 +1,18 @@
 use native.Mathlib.Omega.{arith}
 use lib.ListN.{length}
+use mathlib.Core.Path.{ap}
+use Rattle.rules.specs.Lent.{lent}
+use Rattle.monitor.specs.Leaves.{located}
 use Rattle.rules.specs.Numbers.{State, state, write, tables}
 use Rattle.monitor.proofs.Locating.{BlockAt, write_refuse, block_at, block_write_done}
 use Rattle.monitor.proofs.write_block.Goals as goal
-use Rattle.monitor.proofs.write_block.Goals.{In-At, Start}
-
--- what was lent, and the registers
-abbrev st : In-At → State
-st c =
-    state
-    (tables c.args.m c.args.first.now c.args.last.now c.args.offset.now c.args.marks.now c.args.rights.now
-    c.args.grants.now c.args.memory.now)
-    c.args.registers
+use Rattle.monitor.proofs.write_block.Goals.{In-Ok, Start}
 
 -- where a place was told
-block : (c : In-At)
-    → BlockAt write (st c) c.args.x (length c.args.bytes.now) c.in-At.place
+block : (c : In-Ok)
+    → BlockAt write (state (lent c.args.tables c.args.memory.now) c.args.registers) c.args.x (length c.args.bytes.now) c.in-Ok.place
 block c =
-    block_at write (st c) c.args.x (length c.args.bytes.now) _ c.place_block-located.ensures _ c.in-At.is
+    block_at write (state (lent c.args.tables c.args.memory.now) c.args.registers) c.args.x (length c.args.bytes.now) _ c.place_block.ensures _ (ap located c.in-Ok.is)
 
 pub overflow_add-end : goal.overflow_add-end
 overflow_add-end c =
@@ -27,11 +22,11 @@ pub slice_bounds-copy_into-end : goal.slice_bounds-copy_into-end
 slice_bounds-copy_into-end c =
     (block c).inside
 
-pub returns-in-Refused : goal.returns-in-Refused
-returns-in-Refused c =
-    rw c.refuse.ensures (write_refuse _ c.args.x c.args.bytes.now _ _ c.place_block-located.ensures c.in-Refused.is)
+pub returns-in-Err : goal.returns-in-Err
+returns-in-Err c =
+    rw c.new-in-Err.ensures (write_refuse _ c.args.x c.args.bytes.now _ _ c.place_block.ensures (ap located c.in-Err.is))
 
-pub returns-in-At : goal.returns-in-At
-returns-in-At c =
-    let at = (goal.at.returns-in-At c).In-At in
-    rw c.accept.ensures (block_write_done _ _ _ _ _ c.copy_into.ensures (block at))
+pub returns-in-Ok : goal.returns-in-Ok
+returns-in-Ok c =
+    let at = (goal.at.returns-in-Ok c).In-Ok in
+    rw c.new.ensures (block_write_done _ _ _ _ _ c.copy_into.ensures (block at))

@@ -4,46 +4,39 @@
 use Rattle.monitor.proofs.Readiness.{cell_there, row_there, own_rights, source_grant, covers_address, target_rights, place_there, word_there}
 use Rattle.monitor.proofs.Judging.{load_judged, store_judged, protect_judged, grant_judged, receive_judged, transfer_judged, invalidate_judged, revalidate_judged, exclusive_judged, fetch_judged, switch_judged}
 use mathlib.Core.Path.{sym, ◌∙◌}
-use Rattle.rules.specs.Numbers.{State, state, tables}
+use Rattle.rules.specs.Lent.{lent}
+use Rattle.rules.specs.Numbers.{state}
 use Rattle.monitor.specs.Ready.{Ready}
 use Rattle.monitor.proofs.judge.judge.Goals as goal
-use Rattle.monitor.proofs.judge.judge.Goals.{After-held_at-held, Start}
+use Rattle.monitor.proofs.judge.judge.Goals.{After-held_at-held}
 
--- what was lent, and the registers
-abbrev st : After-held_at-held → State
-st c =
-    state
-    (tables c.args.m c.args.first.now c.args.last.now c.args.offset.now c.args.marks.now c.args.rights.now
-    c.args.grants.now c.args.memory.now)
-    c.args.registers
-
-pub ready : (c : After-held_at-held) → Ready (st c) c.args.i c.args.c
+ready : (c : After-held_at-held) → Ready (state (lent c.args.tables c.args.memory.now) c.args.registers) c.args.i c.args.c
 ready c = c.requires
 
-pub bounds-last-c : goal.bounds-last-c
-bounds-last-c c = (cell_there (ready (goal.at.bounds-last-c c).After-held_at-held)).lasts
+pub bounds-tables-c-in-Fetch : goal.bounds-tables-c-in-Fetch
+bounds-tables-c-in-Fetch c = (cell_there (ready (goal.at.bounds-tables-c-in-Fetch c).After-held_at-held)).lasts
 
-pub whole_word-requires : goal.whole_word-requires
-whole_word-requires c =
-    let held = (goal.at.whole_word-requires c).After-held_at-held in
+pub whole_word-whole-requires : goal.whole_word-whole-requires
+whole_word-whole-requires c =
+    let held = (goal.at.whole_word-whole-requires c).After-held_at-held in
     (covers_address (ready held) c.in-Fetch.is).to
 
 pub returns-in-Fetch : goal.returns-in-Fetch
 returns-in-Fetch c =
     let held = (goal.at.returns-in-Fetch c).After-held_at-held in
-    fetch_judged (ready held) c.held_at-held.ensures c.in-Fetch.is c.whole_word.ensures c.judge_whole.ensures
+    fetch_judged (ready held) c.held_at-held.ensures c.in-Fetch.is c.whole_word-whole.ensures c.judge_whole.ensures
 
 pub held_at-target-requires : goal.held_at-target-requires
 held_at-target-requires c =
     let held = (goal.at.held_at-target-requires c).After-held_at-held in
     target_rights (ready held) c.in-Switch.is
 
-pub bounds-last-c-in-Switch : goal.bounds-last-c-in-Switch
-bounds-last-c-in-Switch c = (cell_there (ready (goal.at.bounds-last-c-in-Switch c).After-held_at-held)).lasts
+pub bounds-tables-c-in-Switch : goal.bounds-tables-c-in-Switch
+bounds-tables-c-in-Switch c = (cell_there (ready (goal.at.bounds-tables-c-in-Switch c).After-held_at-held)).lasts
 
-pub whole_word-whole-requires : goal.whole_word-whole-requires
-whole_word-whole-requires c =
-    let held = (goal.at.whole_word-whole-requires c).After-held_at-held in
+pub whole_word-whole-requires-in-Switch : goal.whole_word-whole-requires-in-Switch
+whole_word-whole-requires-in-Switch c =
+    let held = (goal.at.whole_word-whole-requires-in-Switch c).After-held_at-held in
     (covers_address (ready held) c.in-Switch.is).to
 
 pub entry_word-requires : goal.entry_word-requires
@@ -52,17 +45,17 @@ entry_word-requires c =
     let e = c.in-Switch.is in
     record {
       inside = place_there (ready held) e;
-      whole_inside = λ w. word_there (ready held) e (sym c.whole_word-whole.ensures ∙ w);
+      whole_inside = λ w. word_there (ready held) e (sym c.whole_word-whole-in-Switch.ensures ∙ w);
     }
 
 pub returns-in-Switch : goal.returns-in-Switch
 returns-in-Switch c =
     let held = (goal.at.returns-in-Switch c).After-held_at-held in
-    switch_judged (ready held) c.in-Switch.is c.held_at-target.ensures c.whole_word-whole.ensures c.entry_word.ensures
+    switch_judged (ready held) c.in-Switch.is c.held_at-target.ensures c.whole_word-whole-in-Switch.ensures c.entry_word.ensures
     c.judge_switch.ensures
 
-pub bounds-marks-c : goal.bounds-marks-c
-bounds-marks-c c =
+pub bounds-tables-c : goal.bounds-tables-c
+bounds-tables-c c =
     (cell_there c.requires).marked
 
 pub held_at-held-requires : goal.held_at-held-requires

@@ -2,26 +2,23 @@ use Prim.Native.Nat.{◌-◌}
 use mathlib.Core.Path.{◌≡◌}
 use native.Mathlib.Omega.{arith}
 use Rattle.monitor.specs.Answers.{came}
-use Rattle.monitor.proofs.Running.{turn_first, position_told, turn_next, turns_ran}
-use borrow.Author.Rules.{rules}
+use Rattle.monitor.proofs.Running.{same_lists, same_then, turn_first, position_told, turn_next, turns_ran}
 use Rattle.monitor.proofs.list.run_list.Goals as goal
 use Rattle.monitor.proofs.list.run_list.Goals.{After-perform-answered}
 
 -- its answer's entry
 entry : (c : After-perform-answered) → c.perform-answered.result.position - 1 ≡ c.loop-k.k
-entry c = omega (arith, position_told c.perform-answered.ensures)
+entry c = omega (arith, position_told c.perform-answered.ensures.done)
 
 pub loop-k-init : goal.loop-k-init
-loop-k-init c =
-    (search rules, turn_first _ _ _ _ c.requires.begun)
+loop-k-init c = (turn_first _ _ _ _ c.requires.begun, same_lists)
 
 pub perform-answered-requires : goal.perform-answered-requires
-perform-answered-requires c =
-    c.loop-k.invariant.1.begun
+perform-answered-requires c = c.loop-k.invariant.0.begun
 
 pub overflow_sub-entry : goal.overflow_sub-entry
 overflow_sub-entry c =
-    omega (arith, position_told c.perform-answered.ensures)
+    omega (arith, position_told c.perform-answered.ensures.done)
 
 pub offset_bounds-numbers-entry : goal.offset_bounds-numbers-entry
 offset_bounds-numbers-entry c =
@@ -31,7 +28,7 @@ offset_bounds-numbers-entry c =
 pub bounds-numbers-entry : goal.bounds-numbers-entry
 bounds-numbers-entry c =
     let p = (goal.at.bounds-numbers-entry c).After-perform-answered in
-    omega (arith, entry p, c.loop-k-test.true, c.requires.room, c.loop-k.invariant.1.long)
+    omega (arith, entry p, c.loop-k-test.true, c.requires.room, c.loop-k.invariant.0.long)
 
 pub offset_bounds-values-entry : goal.offset_bounds-values-entry
 offset_bounds-values-entry c =
@@ -41,41 +38,26 @@ offset_bounds-values-entry c =
 pub bounds-values-entry : goal.bounds-values-entry
 bounds-values-entry c =
     let p = (goal.at.bounds-values-entry c).After-perform-answered in
-    omega (arith, entry p, c.loop-k-test.true, c.requires.room, c.loop-k.invariant.1.wide)
-
-pub overflow_add-k-in-loop-k : goal.overflow_add-k-in-loop-k
-overflow_add-k-in-loop-k c =
-    omega (arith, c.loop-k-test.true, c.requires.room, c.well_formed)
-
-pub loop-k-smaller : goal.loop-k-smaller
-loop-k-smaller c =
-    omega (arith, c.loop-k-test.true)
+    omega (arith, entry p, c.loop-k-test.true, c.requires.room, c.loop-k.invariant.0.wide)
 
 pub loop-k-preserved : goal.loop-k-preserved
 loop-k-preserved c =
     let p = (goal.at.loop-k-preserved c).After-perform-answered in
-    (omega (arith, c.loop-k-test.true), turn_next (came c.perform-answered.result.reply _) c.loop-k.invariant.1 c.perform-answered.ensures (entry p))
-
-pub shape_of-marks : goal.shape_of-marks
-shape_of-marks c = c.loop-k.invariant.1.shape.marks
-
-pub shape_of-rights : goal.shape_of-rights
-shape_of-rights c = c.loop-k.invariant.1.shape.rights
-
-pub shape_of-grants : goal.shape_of-grants
-shape_of-grants c = c.loop-k.invariant.1.shape.grants
+    (
+      turn_next (came c.perform-answered.result.reply _) c.loop-k.invariant.0 c.perform-answered.ensures.done (entry p),
+      same_then c.loop-k.invariant.1 c.perform-answered.ensures.same_lists,
+    )
 
 pub shape_of-memory : goal.shape_of-memory
-shape_of-memory c = c.loop-k.invariant.1.shape.bytes
+shape_of-memory c = c.loop-k.invariant.0.shape.bytes
 
 pub shape_of-numbers : goal.shape_of-numbers
-shape_of-numbers c = c.loop-k.invariant.1.long
+shape_of-numbers c = c.loop-k.invariant.0.long
 
 pub shape_of-values : goal.shape_of-values
-shape_of-values c = c.loop-k.invariant.1.wide
+shape_of-values c = c.loop-k.invariant.0.wide
 
 pub returns : goal.returns
 returns c =
-    let at = c.loop-k in
-    let e : at.k ≡ c.args.count = omega (arith, c.loop-k-test.false, at.invariant.0) in
-    turns_ran at.invariant.1 e
+    let e : c.loop-k.k ≡ c.args.count = omega (arith, c.loop-k-test.false, c.loop-k.auto) in
+    record { answers = turns_ran c.loop-k.invariant.0 e; same_lists = c.loop-k.invariant.1 }

@@ -1,11 +1,7 @@
-use mathlib.Core.Path.{sym, ◌∙◌}
-use Rattle.monitor.proofs.Searching.{somebody_else, nobody_at_all}
+use mathlib.Core.Path.{sym, ap, ◌∙◌}
+use Rattle.std.specs.Prelude.{is_some}
+use Rattle.monitor.proofs.Searching.{nobody_else_is}
 use Rattle.monitor.proofs.look.nobody_else.Goals as goal
 
-pub returns-in-Division : goal.returns-in-Division
-returns-in-Division c =
-    somebody_else _ _ _ _ _ (sym c.other_holder-h.ensures ∙ c.in-Division.is)
-
-pub returns-in-Nobody : goal.returns-in-Nobody
-returns-in-Nobody c =
-    nobody_at_all _ _ _ _ (sym c.other_holder-h.ensures ∙ c.in-Nobody.is)
+pub returns : goal.returns
+returns c = nobody_else_is _ _ _ _ _ (sym (ap is_some c.other_holder.ensures) ∙ c.is_none.ensures)
