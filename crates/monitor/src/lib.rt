@@ -180,8 +180,10 @@ pub fn view_answer(
 ) -> Result<(), Refusal>
     ensures { answer_of result ≡ answer_in (performed (state (lent tables.entry memory.now) registers) (read_view x n)) }
 {
-    place_block(rules::READ, tables, memory, registers, x, n)?;
-    Ok(())
+    match place_block(rules::READ, tables, memory, registers, x, n) {
+        Ok(_) => Ok(()),
+        Err(refusal) => Err(refusal),
+    }
 }
 
 // The same, with the place of the part in the memory, for callers that cannot be handed a reference.
