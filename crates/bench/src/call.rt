@@ -1,189 +1,100 @@
-// `execute`, `write_block`, and `view` with `view_answer`, on what is lent. Each writes its answer, and hands back the registers.
-use crate::lend::least;
-use crate::show::{answer, core, part};
-use crate::words::*;
-use rules::Registers;
+// `execute`, `write_block`, and `view` with `view_answer`, on what is lent.
+use crate::lists::Lists;
+use crate::show::{answer, part};
+use crate::words::Call;
+use monitor::Reply;
+use rules::{Tables, TablesMut};
 use std::io;
 use std::io::Write;
 
-// What a row asks for, and what is passed beside the lists.
-#[derive(Clone, Copy)]
-pub struct Asked {
-    pub call: u32,
-    pub a: u32,
-    pub b: u32,
-    pub c: u32,
-    pub d: u32,
-    pub m: usize,
-    pub registers: Registers,
-}
-
 // An instruction.
-fn execute<W: Write>(
-    out: &mut W,
-    asked: Asked,
-    first: &[u32],
-    last: &[u32],
-    offset: &[u32],
-    marks: &mut [u8],
-    rights: &mut [u8],
-    grants: &mut [u16],
-    memory: &mut [u8],
-) -> io::Result<Registers> {
-    let before = asked.registers;
-    let r = monitor::execute(
-        asked.m, first, last, offset, marks, rights, grants, memory, before, asked.a, asked.b,
-        asked.c, asked.d,
-    );
-    let after = r.registers;
-    answer(out, r.number, r.value)?;
-    core(out, before, after)?;
-    Ok(after)
+fn execute(lists: &mut Lists, number: u32, x: u32, y: u32, z: u32) -> Reply {
+    let n = lists.lengths();
+    // The borrow checker takes a part of a list that is lent to be written only by way of the whole.
+    let marks = &mut lists.marks[..];
+    let rights = &mut lists.rights[..];
+    let grants = &mut lists.grants[..];
+    let memory = &mut lists.memory[..];
+    let mut tables = TablesMut {
+        m: lists.m,
+        first: &lists.first[..n.first],
+        last: &lists.last[..n.last],
+        offset: &lists.offset[..n.offset],
+        marks: &mut marks[..n.marks],
+        rights: &mut rights[..n.rights],
+        grants: &mut grants[..n.grants],
+    };
+    monitor::execute(
+        &mut tables,
+        &mut memory[..n.memory],
+        lists.registers,
+        number,
+        x,
+        y,
+        z,
+    )
 }
 
-// A block write, of the first `b` bytes of the block.
-fn write_block<W: Write>(
-    out: &mut W,
-    asked: Asked,
-    first: &[u32],
-    last: &[u32],
-    offset: &[u32],
-    marks: &[u8],
-    rights: &[u8],
-    grants: &[u16],
-    memory: &mut [u8],
-    block: &[u8],
-) -> io::Result<Registers> {
-    let before = asked.registers;
-    let n = least(asked.b as usize, block.len());
-    let r = monitor::write_block(
-        asked.m,
-        first,
-        last,
-        offset,
-        marks,
-        rights,
-        grants,
-        memory,
-        before,
-        asked.a,
-        &block[..n],
-    );
-    let after = r.registers;
-    answer(out, r.number, r.value)?;
-    core(out, before, after)?;
-    Ok(after)
+// The tables for reading.
+fn tables(lists: &Lists) -> Tables<'_> {
+    let n = lists.lengths();
+    Tables {
+        m: lists.m,
+        first: &lists.first[..n.first],
+        last: &lists.last[..n.last],
+        offset: &lists.offset[..n.offset],
+        marks: &lists.marks[..n.marks],
+        rights: &lists.rights[..n.rights],
+        grants: &lists.grants[..n.grants],
+    }
 }
 
-// A view's length, which may need 64 bits.
-fn length_of(low: u32, high: u32) -> usize {
-    low as usize + 4294967296 * (high as usize)
-}
-
-// The number and the value of a view.
-fn answer_view<W: Write>(
-    out: &mut W,
-    asked: Asked,
-    first: &[u32],
-    last: &[u32],
-    offset: &[u32],
-    marks: &[u8],
-    rights: &[u8],
-    grants: &[u16],
-    memory: &[u8],
-) -> io::Result<()> {
-    let r = monitor::view_answer(
-        asked.m,
-        first,
-        last,
-        offset,
-        marks,
-        rights,
-        grants,
-        memory,
-        asked.registers,
-        asked.a,
-        length_of(asked.b, asked.c),
-    );
-    answer(out, r.number, r.value)
+// A block write.
+fn write_block(lists: &mut Lists, address: u32, bytes: &[u8]) -> Reply {
+    let n = lists.lengths();
+    let memory = &mut lists.memory[..];
+    let tables = Tables {
+        m: lists.m,
+        first: &lists.first[..n.first],
+        last: &lists.last[..n.last],
+        offset: &lists.offset[..n.offset],
+        marks: &lists.marks[..n.marks],
+        rights: &lists.rights[..n.rights],
+        grants: &lists.grants[..n.grants],
+    };
+    monitor::write_block(
+        tables,
+        &mut memory[..n.memory],
+        lists.registers,
+        address,
+        bytes,
+    )
 }
 
 // A read view: its answer, and the part itself.
-fn view<W: Write>(
-    out: &mut W,
-    asked: Asked,
-    first: &[u32],
-    last: &[u32],
-    offset: &[u32],
-    marks: &[u8],
-    rights: &[u8],
-    grants: &[u16],
-    memory: &[u8],
-) -> io::Result<()> {
-    answer_view(
-        out, asked, first, last, offset, marks, rights, grants, memory,
-    )?;
-    let bytes = monitor::view(
-        asked.m,
-        first,
-        last,
-        offset,
-        marks,
-        rights,
-        grants,
-        memory,
-        asked.registers,
-        asked.a,
-        length_of(asked.b, asked.c),
-    );
+fn view<W: Write>(out: &mut W, lists: &Lists, address: u32, length: usize) -> io::Result<()> {
+    let tables = tables(lists);
+    let memory = &lists.memory[..lists.lengths().memory];
+    match monitor::view_answer(tables, memory, lists.registers, address, length) {
+        Ok(()) => answer(out, 0, 0)?,
+        Err(refusal) => answer(out, refusal.number(), refusal.value())?,
+    }
+    let bytes = monitor::view(tables, memory, lists.registers, address, length);
     part(out, bytes)
 }
 
-// A call that is no instruction.
-fn write_or_view<W: Write>(
-    out: &mut W,
-    asked: Asked,
-    first: &[u32],
-    last: &[u32],
-    offset: &[u32],
-    marks: &[u8],
-    rights: &[u8],
-    grants: &[u16],
-    memory: &mut [u8],
-    block: &[u8],
-) -> io::Result<Registers> {
-    if asked.call == WRITE {
-        write_block(
-            out, asked, first, last, offset, marks, rights, grants, memory, block,
-        )
-    } else {
-        view(
-            out, asked, first, last, offset, marks, rights, grants, memory,
-        )?;
-        Ok(asked.registers)
-    }
-}
-
-// The call that a row asks for.
+// Makes a case's call, with the first bytes of the block for a block write, and writes what it answered.
 pub fn perform<W: Write>(
     out: &mut W,
-    asked: Asked,
-    first: &[u32],
-    last: &[u32],
-    offset: &[u32],
-    marks: &mut [u8],
-    rights: &mut [u8],
-    grants: &mut [u16],
-    memory: &mut [u8],
+    lists: &mut Lists,
+    call: Call,
     block: &[u8],
-) -> io::Result<Registers> {
-    if asked.call == DO {
-        execute(
-            out, asked, first, last, offset, marks, rights, grants, memory,
-        )
-    } else {
-        write_or_view(
-            out, asked, first, last, offset, marks, rights, grants, memory, block,
-        )
-    }
+) -> io::Result<()> {
+    let reply = match call {
+        Call::Do(number, x, y, z) => execute(lists, number, x, y, z),
+        Call::Write(address, n) => write_block(lists, address, &block[..n.min(block.len())]),
+        Call::View(address, n) => return view(out, lists, address, n),
+    };
+    lists.registers = reply.registers;
+    answer(out, reply.number, reply.value)
 }

@@ -1,4 +1,4 @@
-// The rows, in a table for each subject. A row is added at the end of its table, and its ROWS grows by one.
+// The cases, in a table for each subject. A case is added at the end of its table.
 pub mod blocks;
 pub mod bytes;
 pub mod cells;
@@ -18,29 +18,28 @@ pub mod views;
 pub mod words;
 pub mod writes;
 
-use crate::words::*;
+use crate::words::Case;
 
-// Row `k` of a table; past its last row, and past the last table, the end.
-pub fn row(table: u32, k: usize) -> [u32; 9] {
-    match table {
-        0 => document::row(k),
-        1 => sizes::row(k),
-        2 => largest::row(k),
-        3 => cells::row(k),
-        4 => order::row(k),
-        5 => numbers::row(k),
-        6 => operands::row(k),
-        7 => covered::row(k),
-        8 => bytes::row(k),
-        9 => words::row(k),
-        10 => switches::row(k),
-        11 => holdings::row(k),
-        12 => gifts::row(k),
-        13 => transfers::row(k),
-        14 => blocks::row(k),
-        15 => writes::row(k),
-        16 => views::row(k),
-        17 => parts::row(k),
-        _ => [END; 9],
-    }
+// Every table, in the order of docs/BENCH.md. This is a function, since one constant of all the cases is too large to be checked.
+pub fn tables() -> [&'static [Case]; 18] {
+    [
+        document::CASES,
+        sizes::CASES,
+        largest::CASES,
+        cells::CASES,
+        order::CASES,
+        numbers::CASES,
+        operands::CASES,
+        covered::CASES,
+        bytes::CASES,
+        words::CASES,
+        switches::CASES,
+        holdings::CASES,
+        gifts::CASES,
+        transfers::CASES,
+        blocks::CASES,
+        writes::CASES,
+        views::CASES,
+        parts::CASES,
+    ]
 }

@@ -1,125 +1,72 @@
 // What a line of the output has, field by field: the answer, then what changed.
-use crate::words::*;
+use crate::lists::Lists;
 use rules::Registers;
+use std::fmt::Display;
 use std::io;
 use std::io::Write;
 
-// A tab and a number.
-pub fn field<W: Write>(out: &mut W, n: u64) -> io::Result<()> {
-    write!(out, "\t{n}")
-}
-
-// A byte as a wider number.
-fn wide_byte(x: u8) -> u64 {
-    u64::from(x)
-}
-
-// A grant entry as a wider number.
-fn wide_grant(x: u16) -> u64 {
-    u64::from(x)
-}
-
-// How a line begins.
-pub fn case_number<W: Write>(out: &mut W, case: u32) -> io::Result<()> {
-    write!(out, "{case}")
-}
-
 // A call's number and value.
 pub fn answer<W: Write>(out: &mut W, number: u32, value: u32) -> io::Result<()> {
-    field(out, u64::from(number))?;
-    field(out, u64::from(value))
+    write!(out, "\t{number}\t{value}")
 }
 
-// The registers, where the call changed them.
-pub fn core<W: Write>(out: &mut W, before: Registers, after: Registers) -> io::Result<()> {
-    let same = (before.current == after.current)
-        & (before.caller == after.caller)
-        & (before.place == after.place);
-    if same {
+// The registers, where they changed.
+fn core<W: Write>(out: &mut W, before: Registers, after: Registers) -> io::Result<()> {
+    if before == after {
         return Ok(());
     }
-    write!(out, "\tcore")?;
-    field(out, u64::from(after.current))?;
-    field(out, u64::from(after.caller))?;
-    field(out, u64::from(after.place))
-}
-
-// The word for an entry of a list.
-fn word<W: Write>(out: &mut W, list: u32) -> io::Result<()> {
-    if list == MARKS {
-        write!(out, "\tmark")
-    } else if list == RIGHTS {
-        write!(out, "\tright")
-    } else if list == GRANTS {
-        write!(out, "\tgrant")
-    } else {
-        write!(out, "\tbyte")
-    }
-}
-
-// A changed entry: by its index or, where a row of the list has `across` entries, by cell and division.
-fn entry<W: Write>(
-    out: &mut W,
-    list: u32,
-    across: usize,
-    index: usize,
-    value: u64,
-) -> io::Result<()> {
-    word(out, list)?;
-    if across == 0 {
-        field(out, index as u64)?;
-    } else {
-        field(out, (index / across) as u64)?;
-        field(out, (index % across) as u64)?;
-    }
-    field(out, value)
-}
-
-// Every changed entry of a list of bytes.
-pub fn changed_bytes<W: Write>(
-    out: &mut W,
-    list: u32,
-    across: usize,
-    before: &[u8],
-    after: &[u8],
-) -> io::Result<()> {
-    for (i, (was, is)) in before.iter().zip(after).enumerate() {
-        if was != is {
-            entry(out, list, across, i, wide_byte(*is))?;
-        }
-    }
-    Ok(())
-}
-
-// Every changed grant entry.
-pub fn changed_grants<W: Write>(
-    out: &mut W,
-    across: usize,
-    before: &[u16],
-    after: &[u16],
-) -> io::Result<()> {
-    for (i, (was, is)) in before.iter().zip(after).enumerate() {
-        if was != is {
-            entry(out, GRANTS, across, i, wide_grant(*is))?;
-        }
-    }
-    Ok(())
+    let Registers {
+        current,
+        caller,
+        place,
+    } = after;
+    write!(out, "\tcore\t{current}\t{caller}\t{place}")
 }
 
 // The bytes that a view handed back.
 pub fn part<W: Write>(out: &mut W, bytes: &[u8]) -> io::Result<()> {
     write!(out, "\tpart")?;
-    part_bytes(out, bytes)
-}
-
-fn part_bytes<W: Write>(out: &mut W, bytes: &[u8]) -> io::Result<()> {
     for byte in bytes {
-        field(out, wide_byte(*byte))?;
+        write!(out, "\t{byte}")?;
     }
     Ok(())
 }
 
-// Said of a row that names no entry there is, so that the output is not as expected.
-pub fn no_such_entry<W: Write>(out: &mut W) -> io::Result<()> {
-    writeln!(out, "no such entry")
+// Every changed entry of a list, after a word for it.
+fn changed<W: Write, T: Display + PartialEq>(
+    out: &mut W,
+    word: impl Display + Drop,
+    before: &[T],
+    after: &[T],
+) -> io::Result<()> {
+    for (i, (was, is)) in before.iter().zip(after).enumerate() {
+        if was != is {
+            write!(out, "\t{word}\t{i}\t{is}")?;
+        }
+    }
+    Ok(())
+}
+
+// The same of a list that has an entry for each cell and division, by these two.
+fn changed_by_cell<W: Write, T: Display + PartialEq>(
+    out: &mut W,
+    word: &str,
+    m: usize,
+    before: &[T],
+    after: &[T],
+) -> io::Result<()> {
+    let across = m.max(1);
+    for (cell, (was, is)) in before.chunks(across).zip(after.chunks(across)).enumerate() {
+        changed(out, format_args!("{word}\t{cell}"), was, is)?;
+    }
+    Ok(())
+}
+
+// All that is not as it was.
+pub fn changes<W: Write>(out: &mut W, before: &Lists, after: &Lists) -> io::Result<()> {
+    core(out, before.registers, after.registers)?;
+    changed(out, "mark", &before.marks, &after.marks)?;
+    changed_by_cell(out, "right", after.m, &before.rights, &after.rights)?;
+    changed_by_cell(out, "grant", after.m, &before.grants, &after.grants)?;
+    changed(out, "byte", &before.memory, &after.memory)
 }

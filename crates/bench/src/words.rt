@@ -1,78 +1,62 @@
-// The words of a row. A row is nine numbers:
-//
-//     [from, list, index, value, call, a, b, c, d]
-//
-// `from` says which tables the row starts with. Then the entry `index` of `list` becomes `value`. Then `call` is made
-// with the numbers `a` to `d`. A row whose call is NONE only sets: it writes nothing, and the row below it goes ON.
+// The words of a case.
 
-// ---- from
+// One case: the tables that it starts with, what is set in them first, in order, and the call that is made. Its parts have
+// no names, so that most cases are a line each.
+pub struct Case(pub Start, pub &'static [Setting], pub Call);
 
-// The listing of document 01, before its `do` lines.
-pub const NEW: u32 = 0;
+#[derive(Clone, Copy)]
+pub enum Start {
+    // The listing of document 01, before its `do` lines.
+    Listing,
+    // What the case above left.
+    Then,
+    // Tables of the largest size (`Lists::largest`).
+    Largest,
+}
 
-// What the row above left.
-pub const ON: u32 = 1;
+#[derive(Clone, Copy)]
+pub enum Setting {
+    // Of a cell: its number, and what it gets.
+    First(usize, u32),
+    Last(usize, u32),
+    Offset(usize, u32),
+    Mark(usize, u8),
+    // Of a cell and a division: their numbers, and what they get. A grant is target + 256 × rights.
+    Right(usize, usize, u8),
+    Grant(usize, usize, u16),
+    // Of the memory: a place, and the byte there.
+    Byte(usize, u8),
+    // What is passed beside the lists. N and L are the lengths of first and of the memory.
+    M(u32),
+    N(u32),
+    L(u32),
+    Current(u32),
+    Caller(u32),
+    Place(u32),
+    // The one list that is lent with an entry more, or with one less, than document 01 says.
+    Longer(List),
+    Shorter(List),
+}
 
-// Tables of the largest size (`begin::full`).
-pub const FULL: u32 = 2;
+// The lists whose length could be wrong.
+#[derive(Clone, Copy, PartialEq, Eq)]
+pub enum List {
+    Lasts,
+    Offsets,
+    Marks,
+    Rights,
+    Grants,
+}
 
-// ---- list
-
-// No list to set, or no call to make.
-pub const NONE: u32 = 0;
-
-pub const FIRSTS: u32 = 1;
-
-pub const LASTS: u32 = 2;
-
-pub const OFFSETS: u32 = 3;
-
-pub const MARKS: u32 = 4;
-
-// At the entry cell × M + division.
-pub const RIGHTS: u32 = 5;
-
-// At the same entry; a value is target + 256 × rights.
-pub const GRANTS: u32 = 6;
-
-pub const MEMORY: u32 = 7;
-
-// What is passed beside the lists, at one of the six indices below.
-pub const PASSED: u32 = 8;
-
-pub const M: u32 = 0;
-
-pub const N: u32 = 1;
-
-pub const L: u32 = 2;
-
-pub const CURRENT: u32 = 3;
-
-pub const CALLER: u32 = 4;
-
-pub const PLACE: u32 = 5;
-
-// How the list `index` is lent: as long as document 01 says (0), LONGER by one entry, or SHORTER. N and L are the
-// lengths of first and of the memory, so these two have no length that could be wrong.
-pub const LENT: u32 = 9;
-
-pub const LONGER: u32 = 1;
-
-pub const SHORTER: u32 = 2;
-
-// ---- call
-
-// An instruction: number, x, y, z.
-pub const DO: u32 = 1;
-
-// A block write: address, number of bytes, at most 65,537. The bytes are 1, 2, 3 and so on.
-pub const WRITE: u32 = 2;
-
-// A read view: address, and the length as b + 4,294,967,296 × c.
-pub const VIEW: u32 = 3;
-
-// The table has no more rows.
-pub const END: u32 = 4;
+#[derive(Clone, Copy)]
+pub enum Call {
+    // An instruction: number, x, y, z.
+    Do(u32, u32, u32, u32),
+    // A block write: address, number of bytes, at most 65,537. The bytes are 1, 2, 3 and so on.
+    Write(u32, usize),
+    // A read view: address, number of bytes.
+    View(u32, usize),
+}
 
 // ---- instruction numbers
 

@@ -1,36 +1,32 @@
 // Block write: every check.
+use crate::words::Call::*;
+use crate::words::Setting::*;
+use crate::words::Start::*;
 use crate::words::*;
 
-const ROWS: usize = 24;
-
-const CASES: [[u32; 9]; ROWS] = [
+pub const CASES: &[Case] = &[
     // Block write: checks 1, 2, 3, 6, 7, 8, 9 (write).
-    [NEW, PASSED, M, 0, WRITE, 4096, 1, 0, 0],
-    [NEW, PASSED, M, 33, WRITE, 4096, 1, 0, 0],
-    [NEW, PASSED, N, 257, WRITE, 4096, 1, 0, 0],
-    [NEW, PASSED, L, 65537, WRITE, 4096, 1, 0, 0],
-    [NEW, LENT, RIGHTS, SHORTER, WRITE, 4096, 1, 0, 0],
-    [NEW, LENT, LASTS, LONGER, WRITE, 4096, 1, 0, 0],
-    [NEW, MARKS, 0, 2, WRITE, 4096, 1, 0, 0],
-    [NEW, MARKS, 1, 2, WRITE, 4096, 1, 0, 0],
-    [NEW, PASSED, CURRENT, 3, WRITE, 4096, 1, 0, 0],
-    [NEW, PASSED, CALLER, 3, WRITE, 4096, 1, 0, 0],
-    [NEW, PASSED, CURRENT, 3, WRITE, 9000, 1, 0, 0],
-    [NEW, NONE, 0, 0, WRITE, 4104, 1, 0, 0],
-    [NEW, PASSED, N, 0, WRITE, 4096, 1, 0, 0],
-    [NEW, PASSED, N, 0, NONE, 0, 0, 0, 0],
-    [ON, PASSED, L, 0, WRITE, 0, 0, 0, 0],
-    [NEW, MARKS, 0, 0, WRITE, 4096, 1, 0, 0],
-    [ON, NONE, 0, 0, WRITE, 4096, 9, 0, 0],
-    [NEW, NONE, 0, 0, WRITE, 4096, 9, 0, 0],
-    [NEW, NONE, 0, 0, WRITE, 4103, 2, 0, 0],
-    [NEW, NONE, 0, 0, WRITE, 8192, 5, 0, 0],
-    [NEW, NONE, 0, 0, WRITE, 8192, 4, 0, 0],
-    [NEW, RIGHTS, 0, 1, WRITE, 4096, 1, 0, 0],
-    [NEW, PASSED, CURRENT, 2, WRITE, 8192, 4, 0, 0],
-    [NEW, RIGHTS, 0, 2, WRITE, 4096, 1, 0, 0],
+    Case(Listing, &[M(0)], Write(4096, 1)),
+    Case(Listing, &[M(33)], Write(4096, 1)),
+    Case(Listing, &[N(257)], Write(4096, 1)),
+    Case(Listing, &[L(65537)], Write(4096, 1)),
+    Case(Listing, &[Shorter(List::Rights)], Write(4096, 1)),
+    Case(Listing, &[Longer(List::Lasts)], Write(4096, 1)),
+    Case(Listing, &[Mark(0, 2)], Write(4096, 1)),
+    Case(Listing, &[Mark(1, 2)], Write(4096, 1)),
+    Case(Listing, &[Current(3)], Write(4096, 1)),
+    Case(Listing, &[Caller(3)], Write(4096, 1)),
+    Case(Listing, &[Current(3)], Write(9000, 1)),
+    Case(Listing, &[], Write(4104, 1)),
+    Case(Listing, &[N(0)], Write(4096, 1)),
+    Case(Listing, &[N(0), L(0)], Write(0, 0)),
+    Case(Listing, &[Mark(0, 0)], Write(4096, 1)),
+    Case(Then, &[], Write(4096, 9)),
+    Case(Listing, &[], Write(4096, 9)),
+    Case(Listing, &[], Write(4103, 2)),
+    Case(Listing, &[], Write(8192, 5)),
+    Case(Listing, &[], Write(8192, 4)),
+    Case(Listing, &[Right(0, 0, 1)], Write(4096, 1)),
+    Case(Listing, &[Current(2)], Write(8192, 4)),
+    Case(Listing, &[Right(0, 0, 2)], Write(4096, 1)),
 ];
-
-pub fn row(k: usize) -> [u32; 9] {
-    if k < ROWS { CASES[k] } else { [END; 9] }
-}

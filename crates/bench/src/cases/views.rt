@@ -1,36 +1,32 @@
 // Read view: every check.
+use crate::words::Call::*;
+use crate::words::Setting::*;
+use crate::words::Start::*;
 use crate::words::*;
 
-const ROWS: usize = 24;
-
-const CASES: [[u32; 9]; ROWS] = [
+pub const CASES: &[Case] = &[
     // Read view: same checks with read; on a refusal an empty part.
-    [NEW, PASSED, M, 0, VIEW, 4096, 1, 0, 0],
-    [NEW, PASSED, M, 33, VIEW, 4096, 1, 0, 0],
-    [NEW, PASSED, N, 257, VIEW, 4096, 1, 0, 0],
-    [NEW, PASSED, L, 65537, VIEW, 4096, 1, 0, 0],
-    [NEW, LENT, GRANTS, LONGER, VIEW, 4096, 1, 0, 0],
-    [NEW, LENT, OFFSETS, SHORTER, VIEW, 4096, 1, 0, 0],
-    [NEW, MARKS, 0, 2, VIEW, 4096, 1, 0, 0],
-    [NEW, MARKS, 1, 2, VIEW, 4096, 1, 0, 0],
-    [NEW, PASSED, CURRENT, 3, VIEW, 4096, 1, 0, 0],
-    [NEW, PASSED, CALLER, 3, VIEW, 4096, 1, 0, 0],
-    [NEW, PASSED, CURRENT, 3, VIEW, 9000, 1, 0, 0],
-    [NEW, NONE, 0, 0, VIEW, 4104, 1, 0, 0],
-    [NEW, PASSED, N, 0, VIEW, 4096, 1, 0, 0],
-    [NEW, PASSED, N, 0, NONE, 0, 0, 0, 0],
-    [ON, PASSED, L, 0, VIEW, 0, 0, 0, 0],
-    [NEW, MARKS, 0, 0, VIEW, 4096, 1, 0, 0],
-    [ON, NONE, 0, 0, VIEW, 4096, 9, 0, 0],
-    [NEW, NONE, 0, 0, VIEW, 4096, 9, 0, 0],
-    [NEW, NONE, 0, 0, VIEW, 4103, 2, 0, 0],
-    [NEW, NONE, 0, 0, VIEW, 8192, 5, 0, 0],
-    [NEW, NONE, 0, 0, VIEW, 8192, 4, 0, 0],
-    [NEW, RIGHTS, 0, 2, VIEW, 4096, 1, 0, 0],
-    [NEW, PASSED, CURRENT, 2, VIEW, 8192, 4, 0, 0],
-    [NEW, RIGHTS, 3, 1, VIEW, 8192, 4, 0, 0],
+    Case(Listing, &[M(0)], View(4096, 1)),
+    Case(Listing, &[M(33)], View(4096, 1)),
+    Case(Listing, &[N(257)], View(4096, 1)),
+    Case(Listing, &[L(65537)], View(4096, 1)),
+    Case(Listing, &[Longer(List::Grants)], View(4096, 1)),
+    Case(Listing, &[Shorter(List::Offsets)], View(4096, 1)),
+    Case(Listing, &[Mark(0, 2)], View(4096, 1)),
+    Case(Listing, &[Mark(1, 2)], View(4096, 1)),
+    Case(Listing, &[Current(3)], View(4096, 1)),
+    Case(Listing, &[Caller(3)], View(4096, 1)),
+    Case(Listing, &[Current(3)], View(9000, 1)),
+    Case(Listing, &[], View(4104, 1)),
+    Case(Listing, &[N(0)], View(4096, 1)),
+    Case(Listing, &[N(0), L(0)], View(0, 0)),
+    Case(Listing, &[Mark(0, 0)], View(4096, 1)),
+    Case(Then, &[], View(4096, 9)),
+    Case(Listing, &[], View(4096, 9)),
+    Case(Listing, &[], View(4103, 2)),
+    Case(Listing, &[], View(8192, 5)),
+    Case(Listing, &[], View(8192, 4)),
+    Case(Listing, &[Right(0, 0, 2)], View(4096, 1)),
+    Case(Listing, &[Current(2)], View(8192, 4)),
+    Case(Listing, &[Right(1, 0, 1)], View(8192, 4)),
 ];
-
-pub fn row(k: usize) -> [u32; 9] {
-    if k < ROWS { CASES[k] } else { [END; 9] }
-}
