@@ -8,8 +8,11 @@ use native.Mathlib.Nat.{add-zero, min-eq_left, min-eq_right}
 use native.Mathlib.Numerals.{add-one}
 use lib.ListN.{length, get_or, drop, get_or-eq_default}
 use lib.Seq.{drop-cons, get_or-drop}
+use lib.Dec.{ltb}
+use Rattle.std.proofs.Common.{Some}
+use Rattle.std.proofs.lemmas.Option.{same_Some, none-some}
 use borrow.Author.Tests.{le-leb, lt-leb}
-use Rattle.text.specs.Number.{peek_at, is_digit, digits_in, value_from}
+use Rattle.text.specs.Number.{peek_at, byte_or_none, is_digit, digits_in, value_from}
 use Rattle.text.proofs.Cases.{by_test, below_or_not}
 
 -- ---- the byte at a place
@@ -27,6 +30,10 @@ pub peek_inside : (s : List ℕ) (i : ℕ) → peek_at s i < 256 → i < length 
 peek_inside [] i h = omega arith
 peek_inside (x ∷ s) zero h = omega arith
 peek_inside (x ∷ s) (suc i) h = omega (arith, peek_inside s i h)
+
+-- a byte that is the answer at a place is the byte there
+pub peek_some : {p c : ℕ} → Some c ≡ byte_or_none p → c ≡ p
+peek_some {p} {c} e = by_test (ltb p 256) (λ h. same_Some c p (e ∙ rw h)) (λ h. absurd (none-some c (sym (e ∙ rw h))))
 
 pub peek_drop : (s : List ℕ) (i : ℕ) → peek_at (drop i s) 0 ≡ peek_at s i
 peek_drop s i = rw (get_or-drop, add-zero)

@@ -1,52 +1,67 @@
 -- Laws of the line at a place, and of a row within limits. Assumes nothing.
 use Prim.Native.Nat.{ℕ, suc, ◌+◌, ◌-◌, ◌≤◌, ◌<◌}
 use mathlib.Core.Path.{◌≡◌, refl, sym, ap, ◌∙◌}
-use mathlib.Core.List.{List}
-use mathlib.Core.Bool.{true, false, ◌&&◌, true≢false}
+use mathlib.Core.List.{List, [], ◌∷◌}
+use mathlib.Core.Bool.{Bool, true, false, ◌&&◌, true≢false}
 use native.Mathlib.Omega.{arith}
 use native.Mathlib.Nat.{sub-zero}
 use native.Mathlib.Numerals.{add-one}
 use lib.ListN.{length, get_or, drop, set, length-set, drop_of_length-le}
 use lib.Seq.{drop-cons}
-use lib.Dec.{leb, ltb}
-use borrow.Author.Tests.{eq-eqb, ne_eqb, lt-ltb, le-ltb, le-leb, lt-leb, leb-true, ltb-true}
-use Rattle.text.specs.Number.{peek_at, number_at}
-use Rattle.text.specs.Line.{tab, line_feed, bad_row, zeros5, word_at, fields_at, row_at, row_within}
-use Rattle.text.specs.declared.number.Field.TheVariants.{Number, Bad}
-use Rattle.text.specs.declared.line.Row.{Row}
-use Rattle.text.proofs.Cases.{by_test, and_left, and_right}
-use Rattle.text.proofs.Digits.{peek_inside}
+use lib.Dec.{leb, ltb, eqb}
+use borrow.Author.Tests.{eq-eqb, ne_eqb, eqb-true, eqb-false, lt-ltb, le-ltb, le-leb, lt-leb, leb-true, ltb-true}
+use Rattle.std.proofs.Common.{Option, Some, None}
+use Rattle.std.specs.Borrow.{Bor}
+use Rattle.std.specs.Option.{unwrap_or}
+use Rattle.std.specs.Slice.{IsGetRangeResult}
+use Rattle.std.proofs.lemmas.Slice.{between_to_end}
+use Rattle.std.specs.List.{starts_with}
+use Rattle.std.proofs.lemmas.Option.{same_Some, none-some}
+use Rattle.text.specs.Number.{Field, Number, Bad, peek_at, number_at, option_of_field}
+use Rattle.text.specs.declared.number.Number.{Number as FoundNumber}
+use Rattle.text.specs.Line.{Row, option_of_row, row_of, tab, line_feed, bad_row, zeros5, word_at, fields_at, row_at, row_within}
+use Rattle.text.specs.declared.line.Row.{Row as Found}
+use Rattle.text.proofs.Cases.{by_test, below_or_not, and_left, and_right}
+use Rattle.text.proofs.Digits.{peek_past}
 
--- ---- the loop of `word_at`: the first j bytes of the word stand at a place, and i is the place after them
+-- ---- the word: what the text starts with from a place on
 
-pub record Spelling (s : List ℕ) (at : ℕ) (w : List ℕ) (i j : ℕ) : Type 0 where
-  pub place : i ≡ at + j
-  pub within : j ≤ length w
-  pub fits : i ≤ 18446744073709551615
-  pub same : word_at s i (drop j w) ≡ word_at s at w
+-- what stands from a place on: past the end, nothing
+pub rest_at : (s : List ℕ) (at : ℕ) (r : Option (Bor (List ℕ))) (none : Bor (List ℕ)) → none.now ≡ [] →
+    IsGetRangeResult s at (length s) r → (unwrap_or r none).now ≡ drop at s
+rest_at s at None none e h = e ∙ sym (drop_of_length-le s (omega (arith, h.0)))
+rest_at s at (Some x) none e h = h.0.2 ∙ between_to_end s at (length s) (omega arith)
 
--- a byte of the word lies in the text where it stands there
-pub word_inside : (s : List ℕ) (i : ℕ) {x : ℕ} → peek_at s i ≡ x → x < 256 → i < length s
-word_inside s i e h = peek_inside s i (omega arith)
+pub word_starts : (s : List ℕ) (at : ℕ) (w : List ℕ) → ((k : ℕ) → get_or w k 0 < 256) →
+    starts_with eqb (drop at s) w ≡ word_at s at w
+word_starts s at [] h = refl
+word_starts s at (x ∷ w) h =
+    below_or_not at (length s)
+    (λ i.
+    by_test (eqb (peek_at s at) x)
+    (λ e.
+    let same : x ≡ peek_at s at = sym (eqb-true (peek_at s at) x e) in
+    rw (drop-cons s at 256 i, e, eq-eqb x (peek_at s at) same, ← add-one at) (word_starts s (at + 1) w (λ k. h (suc k))))
+    (λ e. rw (drop-cons s at 256 i, e, ne_eqb x (peek_at s at) (λ f. eqb-false (peek_at s at) x e (sym f)))))
+    (λ i. rw (drop_of_length-le s i, ne_eqb (peek_at s at) x (λ e. omega (arith, e, peek_past s at i, h 0))))
 
-module _ {s w : List ℕ} {at i j : ℕ} (m : Spelling s at w i j) where
-  pub word_differs : j < length w → (peek_at s i ≡ get_or w j 0 → ⊥) → false ≡ word_at s at w
-  word_differs h e = sym (rw (drop-cons w j 0 h, ne_eqb (peek_at s i) (get_or w j 0) e)) ∙ m.same
+-- ---- a number and a row as answers
 
-  pub word_goes_on : j < length w → i < 18446744073709551615 → peek_at s i ≡ get_or w j 0 →
-      Spelling s at w (i + 1) (j + 1)
-  word_goes_on h small e =
-      let more : word_at s i (drop j w) ≡ word_at s (i + 1) (drop (j + 1) w) =
-      rw (drop-cons w j 0 h, eq-eqb (peek_at s i) (get_or w j 0) e, add-one j) in
-      record {
-        place = omega (arith, m.place);
-        within = omega arith;
-        fits = omega arith;
-        same = sym more ∙ m.same;
-      }
+pub found_number : (f : Field) {x : FoundNumber} → Some x ≡ option_of_field f → f ≡ Number x.value x.next
+found_number (Number v n) {x} e = ap (λ (y : FoundNumber). Number y.value y.next) (same_Some _ x (sym e))
+found_number Bad {x} e = absurd (none-some x (sym e))
 
-  pub word_whole : length w ≤ j → true ≡ word_at s at w
-  word_whole h = ap (word_at s i) (sym (drop_of_length-le w h)) ∙ m.same
+-- an answer is a right line, and none is no right line
+pub found_row : (r : Row) {f : Found} → Some f ≡ option_of_row r → r ≡ row_of f
+found_row r {f} e =
+    by_test r.ok
+    (λ h.
+    let same : ◌≡◌ {A = Option Found} (Some f) (Some (record { next = r.next; v = r.v })) = e ∙ rw h in
+    ap (λ (b : Bool). record { ok = b; next = r.next; v = r.v }) h ∙ ap row_of (sym (same_Some _ _ same)))
+    (λ h. absurd (none-some f (sym (e ∙ rw h))))
+
+pub no_row : (r : Row) → None ≡ option_of_row r → r.ok ≡ false
+no_row r e = by_test r.ok (λ h. absurd (none-some (record { next = r.next; v = r.v }) (e ∙ rw h))) (λ h. h)
 
 -- ---- the loop of `fields_at`: j of k numbers are read into v, and i is the place after them
 
@@ -120,6 +135,14 @@ module _ (r : Row) (j least limit : ℕ) where
   unfolding row_within
   within_limits h l m =
       rw (lt-ltb j 5 (omega arith), le-leb least (get_or r.v j 0) l, lt-ltb (get_or r.v j 0) limit m)
+
+  -- where the row is not right, none is within limits
+  pub within_no_row : None ≡ option_of_row r → None ≡ option_of_row (row_within r j least limit)
+  unfolding row_within
+  within_no_row e =
+      by_test (ltb j 5 && leb least (get_or r.v j 0) && ltb (get_or r.v j 0) limit)
+      (λ h. rw h e)
+      (λ h. rw h)
 
   -- a row that is right within limits is the row itself, and the number is within them
   pub within_passed : (row_within r j least limit).ok ≡ true →

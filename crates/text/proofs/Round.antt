@@ -12,7 +12,7 @@ use borrow.Author.Tests.{lt-ltb, le-ltb, eq-eqb, ne_eqb, le-leb}
 use Rattle.text.specs.Number.{peek_at, is_digit, digits_in, value_from, number_at}
 use Rattle.text.specs.Line.{tab, line_feed, word_at, fields_at, row_at, zeros5}
 use Rattle.text.specs.Text.{Put, decimal_in, decimal, fields_text, row_text, row_in}
-use Rattle.text.specs.declared.number.Field.TheVariants.{Number}
+use Rattle.text.specs.Number.{Number}
 use Rattle.text.proofs.Cases.{below_or_not}
 use Rattle.text.proofs.Digits.{digit_between, run_stops, peek_drop}
 use Rattle.text.proofs.Lines.{row_fields}

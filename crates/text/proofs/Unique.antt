@@ -9,7 +9,7 @@ use Rattle.text.specs.Text.{Put}
 use Rattle.text.proofs.number.peek.Reads as peek-reads
 use Rattle.text.proofs.number.number_at.Reads as number-at-reads
 use Rattle.text.proofs.line.row_at.Reads as row-at-reads
-use Rattle.text.proofs.line.within.Reads as within-reads
+use Rattle.text.proofs.line.Row.within.Reads as within-reads
 use Rattle.text.proofs.put.put_word.Reads as put-word-reads
 use Rattle.text.proofs.put.put_number.Reads as put-number-reads
 use Rattle.text.proofs.put.put_row.Reads as put-row-reads

@@ -2,12 +2,13 @@
 -- Assumes nothing.
 use Prim.Native.Nat.{ℕ, zero, suc, ◌+◌, ◌-◌, ◌*◌, ◌/◌, ◌%◌, ◌≤◌, ◌<◌}
 use mathlib.Core.Path.{◌≡◌, refl, sym, ap, ◌∙◌}
-use mathlib.Core.List.{List, [], ◌∷◌, ◌++◌}
+use mathlib.Core.List.{List, [], ◌∷◌, ◌++◌, append_assoc}
 use native.Mathlib.Omega.{arith}
 use native.Mathlib.Nat.{add-zero, sub-zero}
 use native.Mathlib.Numerals.{add-one}
-use lib.ListN.{length, get_or, drop, set, length-append, length-set, drop_of_length-le}
-use lib.Seq.{sets, drop-cons}
+use lib.ListN.{length, get_or, take, drop, set, length-append, length-set, drop_of_length-le}
+use lib.Seq.{sets, sets-eq, drop-drop}
+use borrow.Rule.Slice.PartMut.{put_mid}
 use borrow.Author.Tests.{lt-ltb, le-ltb}
 use Rattle.text.specs.Line.{tab, line_feed}
 use Rattle.text.specs.Text.{Put, decimal_in, decimal, fields_text}
@@ -88,33 +89,16 @@ module _ {l₀ : List ℕ} {at : ℕ} {T : List ℕ} {l : List ℕ} {i : ℕ} wh
   rest_none : Rest l₀ at T l i [] → Put l₀ at T i l
   rest_none r = record { place = omega (arith, r.place); bytes = r.bytes }
 
--- ---- the loop of `write_word`: j bytes of the word are written, and i is the place after them
+-- ---- a word that is copied
 
-pub record Spelt (l₀ : List ℕ) (at : ℕ) (w : List ℕ) (l : List ℕ) (i j : ℕ) : Type 0 where
-  pub place : i ≡ at + j
-  pub within : j ≤ length w
-  pub long : length l ≡ length l₀
-  pub rest : sets l i (drop j w) ≡ sets l₀ at w
-
-pub spelt_none : (l₀ : List ℕ) (at : ℕ) (w : List ℕ) → Spelt l₀ at w l₀ at 0
-spelt_none l₀ at w = record { place = omega arith; within = omega arith; long = refl; rest = refl }
-
-module _ {l₀ : List ℕ} {at : ℕ} {w l : List ℕ} {i j : ℕ} (m : Spelt l₀ at w l i j) where
-  pub spelt_more : j < length w → Spelt l₀ at w (set l i (get_or w j 0)) (i + 1) (j + 1)
-  spelt_more h =
-      let more : sets l i (drop j w) ≡ sets (set l i (get_or w j 0)) (i + 1) (drop (j + 1) w) =
-      rw (drop-cons w j 0 h, add-one i, add-one j) in
-      record {
-        place = omega (arith, m.place);
-        within = omega arith;
-        long = length-set l i (get_or w j 0) ∙ m.long;
-        rest = sym more ∙ m.rest;
-      }
-
-  pub spelt_all : length w ≤ j → Put l₀ at w i l
-  spelt_all h =
-      let none : drop j w ≡ [] = drop_of_length-le w h in
-      record { place = omega (arith, m.place, m.within); bytes = rw none at m.rest }
+pub word_copied : {l w c : List ℕ} {at : ℕ} → at + length w ≤ length l → c ≡ w →
+    Put l at w (at + length w) (put_mid at (at + length w - at) l c)
+word_copied {l} {w} {c} {at} h e =
+    let long : at + length w - at ≡ length w = omega arith in
+    record {
+      place = refl;
+      bytes = rw (long, e, sets-eq w l at h, drop-drop (length w) at l) (sym (append_assoc (take at l) w (drop (at + length w) l)));
+    }
 
 -- ---- the loop of `write_fields`: j of k numbers of v are written, and i is the place after them
 

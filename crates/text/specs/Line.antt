@@ -1,10 +1,8 @@
 -- A line ends in LF, and its fields, a keyword and then at most five numbers, are parted by one tab. So CR, two tabs, a
 -- tab at the end and an empty line are wrong. The keyword is a list of bytes that the caller gives. Assumes nothing.
-use Rattle.std.specs.Prelude.{ℕ, zero, suc, ◌+◌, List, [], ◌∷◌, Bool, true, false, cond, ◌&&◌, length, set, get_or, eqb, leb, ltb}
-use Rattle.text.specs.Number.{peek_at, number_at}
-use Rattle.text.specs.declared.number.Field.{Field}
-use Rattle.text.specs.declared.number.Field.TheVariants.{Number, Bad}
-use Rattle.text.specs.declared.line.Row.{Row}
+use Rattle.std.specs.Prelude.{ℕ, zero, suc, ◌+◌, List, [], ◌∷◌, Bool, true, false, cond, ◌&&◌, Option, Some, None, length, set, get_or, eqb, leb, ltb}
+use Rattle.text.specs.Number.{Field, Number, Bad, peek_at, number_at}
+use Rattle.text.specs.declared.line.Row.{Row as Found}
 
 -- the byte between two fields
 abbrev pub tab : ℕ
@@ -17,6 +15,20 @@ line_feed = 10
 -- no number yet
 abbrev pub zeros5 : List ℕ
 zeros5 = 0 ∷ 0 ∷ 0 ∷ 0 ∷ 0 ∷ []
+
+-- whether a line is right, the place after it, and its numbers, 0 past the last
+pub record Row : Type 0 where
+  pub ok : Bool
+  pub next : ℕ
+  pub v : List ℕ
+
+-- the same as an answer: a right line, or none
+abbrev pub option_of_row : Row → Option Found
+option_of_row r = cond r.ok (Some (record { next = r.next; v = r.v })) None
+
+-- the row of a right line
+abbrev pub row_of : Found → Row
+row_of r = record { ok = true; next = r.next; v = r.v }
 
 -- the row of no right line
 abbrev pub bad_row : Row

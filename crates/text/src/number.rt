@@ -1,12 +1,15 @@
 // The number that stands at a place of a text.
 ghost use Rattle.std.specs.Prelude.{◌≡◌, ◌+◌, ◌-◌, ◌*◌, ◌≤◌, min, drop};
-ghost use Rattle.text.specs.Number.{peek_at, digits_in, value_from, number_at};
+ghost use Rattle.text.specs.Number.{peek_at, byte_or_none, digits_in, value_from, number_at, option_of_field};
 
-// What stands at a place: a number, with the place after it, or none.
-#[derive(Clone, Copy)]
-pub enum Field {
-    Number(u32, usize),
-    Bad,
+// The largest value that `Run` tells apart from others.
+const LARGE: u64 = 4294967296;
+
+// A number, and the place after it.
+#[derive(Clone, Copy, PartialEq, Eq)]
+pub struct Number {
+    pub value: u32,
+    pub next: usize,
 }
 
 // A run of digits: its value, and the place after it. The value is kept at 4,294,967,296 where it is more, so that it
@@ -17,71 +20,49 @@ struct Run {
     next: usize,
 }
 
-// A byte as `peek` answers it.
-pub fn wide(x: u8) -> u16
-    ensures { result ≡ x }
+// The byte at a place, or none past the end: no reader but this one indexes the text, and none asks for its end.
+pub fn peek(s: &[u8], at: usize) -> Option<u8>
+    ensures { result ≡ byte_or_none (peek_at s.now at) }
 {
-    x as u16
+    s.get(at).copied()
 }
 
-// The byte at a place, and 256 past the end: no reader but this one indexes the text, and none asks for its end.
-pub fn peek(s: &[u8], at: usize) -> u16
-    ensures { result ≡ peek_at s.now at }
+// The value with the digit c behind it.
+fn shift(value: u64, c: u8) -> u64
+    requires { (value ≤ 4294967296) × (48 ≤ c) × (c ≤ 57) }
+    ensures { result ≡ min (10 * value + (c - 48)) 4294967296 }
 {
-    if at < s.len() { wide(s[at]) } else { 256 }
-}
-
-// The value v with the digit c behind it.
-fn shift(v: u64, c: u16) -> u64
-    requires { (v ≤ 4294967296) × (48 ≤ c) × (c ≤ 57) }
-    ensures { result ≡ min (10 * v + (c - 48)) 4294967296 }
-{
-    let w = 10 * v + (c - 48) as u64;
-    if w < 4294967296 { w } else { 4294967296 }
+    (10 * value + u64::from(c - b'0')).min(LARGE)
 }
 
 // The run of digits at a place, which may be empty.
-#[tactic(auto, using(crate::proofs::Digits::run_ends_below, crate::proofs::Digits::run_ends_above, crate::proofs::Digits::run_inside, crate::proofs::Digits::run_starts))]
+#[tactic(auto, using(crate::proofs::Digits::run_turns, crate::proofs::Digits::peek_some))]
 fn run_at(s: &[u8], at: usize) -> Run
     ensures value { result.value ≡ min (value_from 0 (drop at s.now)) 4294967296 }
     ensures next { result.next ≡ at + digits_in (drop at s.now) }
 {
-    let mut i = at;
-    let mut v: u64 = 0;
-    loop {
-        let c = peek(s, i);
-        if c < 48 {
-            return Run { value: v, next: i };
-        }
-        if 57 < c {
-            return Run { value: v, next: i };
-        }
-        v = shift(v, c);
-        i += 1;
+    let mut value = 0;
+    let mut next = at;
+    while let Some(c @ b'0'..=b'9') = peek(s, next) {
+        value = shift(value, c);
+        next += 1;
     }
+    Run { value, next }
 }
 
 // The number at a place. It goes as far as there are digits: what may stand behind it is for the caller to test.
 #[tactic(auto, using(crate::proofs::Numbers::number_large, crate::proofs::Numbers::number_plain, crate::proofs::Numbers::number_zero, crate::proofs::Numbers::number_padded, crate::proofs::Numbers::number_empty))]
-pub fn number_at(s: &[u8], at: usize) -> Field
-    ensures { result ≡ number_at s.now at }
+pub fn number_at(s: &[u8], at: usize) -> Option<Number>
+    ensures { result ≡ option_of_field (number_at s.now at) }
 {
-    let r = run_at(s, at);
-    let v = r.value;
-    let next = r.next;
-    if next == at {
-        return Field::Bad;
+    let Run { value, next } = run_at(s, at);
+    let value = u32::try_from(value).ok()?;
+    let digits = next - at;
+    if digits == 0 {
+        return None;
     }
-    if 4294967295 < v {
-        return Field::Bad;
+    if digits > 1 && peek(s, at) == Some(b'0') {
+        return None;
     }
-    if peek(s, at) == 48 {
-        if next == at + 1 {
-            Field::Number(v as u32, next)
-        } else {
-            Field::Bad
-        }
-    } else {
-        Field::Number(v as u32, next)
-    }
+    Some(Number { value, next })
 }

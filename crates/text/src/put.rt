@@ -1,31 +1,23 @@
 // Writing to a lent buffer: each function writes at a place and answers the place after, from where the next call goes
 // on. Where there is no room for the longest that its text can be, it writes nothing and answers the place itself.
-ghost use Rattle.std.specs.Prelude.{◌≡◌, ◌&&◌, ◌+◌, ◌*◌, leb};
+ghost use Rattle.std.specs.Prelude.{◌≡◌, ◌&&◌, ◌+◌, ◌*◌, leb, length};
 ghost use Rattle.text.specs.Text.{Puts, Ends, number_in, word_in, row_in};
 
 use crate::write::{write_fields, write_number, write_word};
 
-// Whether n bytes from a place on end within len. The sum of place and n, which could wrap, is not computed.
+// Whether n bytes from a place on end within len.
 fn has_room(at: usize, n: usize, len: usize) -> bool
     ensures { result ≡ leb (at + n) len }
 {
-    if len < at { false } else { n <= len - at }
+    at.checked_add(n).is_some_and(|end| end <= len)
 }
 
 // Whether a line can be written: a word of so many bytes, at most five numbers, to each a tab and ten digits, and the
 // line feed.
-#[tactic(auto, using(crate::proofs::Room::row_room_many, crate::proofs::Room::row_room_fields, crate::proofs::Room::row_room_no_word, crate::proofs::Room::room_for))]
 fn row_has_room(at: usize, word: usize, k: usize, len: usize) -> bool
     ensures { result ≡ (leb k 5 && leb (at + (word + 11 * k + 1)) len) }
 {
-    if 5 < k {
-        return false;
-    }
-    if has_room(at, word, len) {
-        has_room(at + word, 11 * k + 1, len)
-    } else {
-        false
-    }
+    k <= 5 && has_room(at, word, len) && has_room(at + word, 11 * k + 1, len)
 }
 
 // The word, or any other bytes.
@@ -52,14 +44,14 @@ pub fn put_number(out: &mut [u8], at: usize, n: u32) -> usize
     }
 }
 
-// The line of a keyword and the first k numbers, at most five.
-pub fn put_row(out: &mut [u8], at: usize, word: &[u8], v: [u32; 5], k: usize) -> usize
-    ensures puts { Puts out at (row_in out.old at word.now v k) result }
+// The line of a keyword and numbers, at most five.
+pub fn put_row(out: &mut [u8], at: usize, word: &[u8], numbers: &[u32]) -> usize
+    ensures puts { Puts out at (row_in out.old at word.now numbers.now (length numbers.now)) result }
     ensures ends { Ends at result out.new }
 {
-    if row_has_room(at, word.len(), k, out.len()) {
-        let a = write_word(out, at, word);
-        write_fields(out, a, v, k)
+    if row_has_room(at, word.len(), numbers.len(), out.len()) {
+        let end = write_word(out, at, word);
+        write_fields(out, end, numbers)
     } else {
         at
     }

@@ -3,9 +3,7 @@
 ghost use Rattle.std.specs.Prelude.{◌≡◌, ◌+◌, ◌*◌, ◌≤◌, ◌<◌, length, set};
 ghost use Rattle.text.specs.Text.{Puts, decimal_in, decimal, fields_text};
 
-const TAB: u8 = 9;
-
-const LINE_FEED: u8 = 10;
+const LINE_FEED: u8 = b'\n';
 
 fn write_byte(out: &mut [u8], at: usize, b: u8) -> usize
     requires { at < length out.old }
@@ -25,10 +23,10 @@ fn write_digits(out: &mut [u8], at: usize, n: u32, f: usize) -> usize
         return at;
     }
     if n < 10 {
-        return write_byte(out, at, 48 + n as u8);
+        return write_byte(out, at, b'0' + n as u8);
     }
-    let a = write_digits(out, at, n / 10, f - 1);
-    write_byte(out, a, 48 + (n % 10) as u8)
+    let end = write_digits(out, at, n / 10, f - 1);
+    write_byte(out, end, b'0' + (n % 10) as u8)
 }
 
 // A number in decimal; ten digits are enough for a `u32`.
@@ -39,31 +37,25 @@ pub fn write_number(out: &mut [u8], at: usize, n: u32) -> usize
     write_digits(out, at, n, 10)
 }
 
+#[tactic(auto, using(crate::proofs::Writing::word_copied))]
 pub fn write_word(out: &mut [u8], at: usize, word: &[u8]) -> usize
     requires { at + length word.now ≤ length out.old }
     ensures { Puts out at word.now result }
 {
-    let mut i = at;
-    let mut j = 0;
-    while j < word.len() {
-        out[i] = word[j];
-        i += 1;
-        j += 1;
-    }
-    i
+    let end = at + word.len();
+    out[at..end].copy_from_slice(word);
+    end
 }
 
-// A tab before each of the first k numbers, and the line feed.
-pub fn write_fields(out: &mut [u8], at: usize, v: [u32; 5], k: usize) -> usize
-    requires { (k ≤ 5) × (at + 11 * k + 1 ≤ length out.old) }
-    ensures { Puts out at (fields_text k 0 v) result }
+// A tab before each of the numbers, and the line feed.
+pub fn write_fields(out: &mut [u8], at: usize, numbers: &[u32]) -> usize
+    requires { at + 11 * length numbers.now + 1 ≤ length out.old }
+    ensures { Puts out at (fields_text (length numbers.now) 0 numbers.now) result }
 {
-    let mut i = at;
-    let mut j = 0;
-    while j < k {
-        i = write_byte(out, i, TAB);
-        i = write_number(out, i, v[j]);
-        j += 1;
+    let mut end = at;
+    for n in numbers {
+        end = write_byte(out, end, b'\t');
+        end = write_number(out, end, *n);
     }
-    write_byte(out, i, LINE_FEED)
+    write_byte(out, end, LINE_FEED)
 }

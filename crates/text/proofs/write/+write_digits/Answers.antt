@@ -8,8 +8,8 @@ use Rattle.text.proofs.write.+write_digits.Goals as goal
 pub write_byte-requires-2 : goal.write_byte-requires-2
 write_byte-requires-2 t c =
     let short = digits_length (c.args.f - 1) (c.args.n / 10) in
-    omega (arith, short, c.write_digits-a.ensures.place, put_long c.write_digits-a.ensures)
+    omega (arith, short, c.write_digits-end.ensures.place, put_long c.write_digits-end.ensures)
 
 pub returns : goal.returns
 returns t c =
-    digits_more _ _ _ _ c.if-f-eq0.false c.if-n-lt10.false c.write_digits-a.ensures c.write_byte-2.ensures
+    digits_more _ _ _ _ c.if-f-eq0.false c.if-n-lt10.false c.write_digits-end.ensures c.write_byte-2.ensures
