@@ -40,12 +40,6 @@ peek_drop s i = rw (get_or-drop, add-zero)
 
 -- ---- a digit
 
-pub digit_below : (c : ℕ) → c < 48 → is_digit c ≡ false
-digit_below c h = rw (lt-leb 48 c h)
-
-pub digit_above : (c : ℕ) → 57 < c → is_digit c ≡ false
-digit_above c h = rw (le-leb 48 c (omega arith), lt-leb c 57 h)
-
 pub digit_between : (c : ℕ) → 48 ≤ c → c ≤ 57 → is_digit c ≡ true
 digit_between c h k = rw (le-leb 48 c h, le-leb c 57 k)
 
@@ -86,23 +80,8 @@ pub record Running (s : List ℕ) (at i v : ℕ) : Type 0 where
   pub place : i + digits_in (drop i s) ≡ at + digits_in (drop at s)
   pub value : min (value_from v (drop i s)) 4294967296 ≡ min (value_from 0 (drop at s)) 4294967296
 
-pub run_starts : (s : List ℕ) (at : ℕ) → Running s at at 0
-run_starts s at = record { kept = omega arith; place = refl; value = refl }
-
 module _ {s : List ℕ} {at i v : ℕ} (r : Running s at i v) where
-  run_ends : is_digit (peek_at s i) ≡ false →
-      (v ≡ min (value_from 0 (drop at s)) 4294967296) × (i ≡ at + digits_in (drop at s))
-  run_ends h =
-      let e = run_stops v (drop i s) (ap is_digit (peek_drop s i) ∙ h) in
-      (omega (arith, r.value, e.1), omega (arith, r.place, e.0))
-
   module _ {c : ℕ} (e : c ≡ peek_at s i) where
-    pub run_ends_below : c < 48 → (v ≡ min (value_from 0 (drop at s)) 4294967296) × (i ≡ at + digits_in (drop at s))
-    run_ends_below h = run_ends (digit_below (peek_at s i) (omega arith))
-
-    pub run_ends_above : 57 < c → (v ≡ min (value_from 0 (drop at s)) 4294967296) × (i ≡ at + digits_in (drop at s))
-    run_ends_above h = run_ends (digit_above (peek_at s i) (omega arith))
-
     pub run_inside : c ≤ 57 → i < length s
     run_inside h = peek_inside s i (omega arith)
 

@@ -4,7 +4,6 @@ use mathlib.Core.Path.{◌≡◌, refl, sym, ap, ◌∙◌}
 use mathlib.Core.List.{List, [], ◌∷◌}
 use mathlib.Core.Bool.{Bool, true, false, ◌&&◌, true≢false}
 use native.Mathlib.Omega.{arith}
-use native.Mathlib.Nat.{sub-zero}
 use native.Mathlib.Numerals.{add-one}
 use lib.ListN.{length, get_or, drop, set, length-set, drop_of_length-le}
 use lib.Seq.{drop-cons}
@@ -19,7 +18,7 @@ use Rattle.std.specs.List.{starts_with}
 use Rattle.std.proofs.lemmas.Option.{same_Some, none-some}
 use Rattle.text.specs.Number.{Field, Number, Bad, peek_at, number_at, option_of_field}
 use Rattle.text.specs.declared.number.Number.{Number as FoundNumber}
-use Rattle.text.specs.Line.{Row, option_of_row, row_of, tab, line_feed, bad_row, zeros5, word_at, fields_at, row_at, row_within}
+use Rattle.text.specs.Line.{Row, option_of_row, row_of, tab, bad_row, zeros5, word_at, fields_at, row_at, row_within}
 use Rattle.text.specs.declared.line.Row.{Row as Found}
 use Rattle.text.proofs.Cases.{by_test, below_or_not, and_left, and_right}
 use Rattle.text.proofs.Digits.{peek_past}
@@ -70,21 +69,9 @@ pub record Reading (s : List ℕ) (at k : ℕ) (v : List ℕ) (i j : ℕ) : Type
   pub five : length v ≡ 5
   pub same : fields_at s (k - j) j v i ≡ fields_at s k 0 zeros5 at
 
-pub fields_start : (s : List ℕ) (at k : ℕ) → Reading s at k zeros5 at 0
-fields_start s at k = record { within = omega arith; five = refl; same = rw sub-zero }
-
 module _ {s : List ℕ} {at k : ℕ} {v : List ℕ} {i j : ℕ} (m : Reading s at k v i j) where
   one_left : j < k → k - j ≡ suc (k - (j + 1))
   one_left h = omega arith
-
-  none_left : k ≤ j → k - j ≡ 0
-  none_left h = omega arith
-
-  pub fields_no_tab : j < k → (peek_at s i ≡ tab → ⊥) → bad_row ≡ fields_at s k 0 zeros5 at
-  fields_no_tab h t = sym (rw (one_left h, ne_eqb (peek_at s i) tab t)) ∙ m.same
-
-  pub fields_no_number : j < k → peek_at s i ≡ tab → number_at s (i + 1) ≡ Bad → bad_row ≡ fields_at s k 0 zeros5 at
-  fields_no_number h t e = sym (rw (one_left h, eq-eqb (peek_at s i) tab t, e)) ∙ m.same
 
   pub fields_go_on : j < k → peek_at s i ≡ tab → {x n : ℕ} → number_at s (i + 1) ≡ Number x n →
       Reading s at k (set v j x) n (j + 1)
@@ -92,13 +79,6 @@ module _ {s : List ℕ} {at k : ℕ} {v : List ℕ} {i j : ℕ} (m : Reading s a
       let more : fields_at s (k - j) j v i ≡ fields_at s (k - (j + 1)) (j + 1) (set v j x) n =
       rw (one_left h, eq-eqb (peek_at s i) tab t, e) in
       record { within = omega arith; five = length-set v j x ∙ m.five; same = sym more ∙ m.same }
-
-  pub fields_end : k ≤ j → peek_at s i ≡ line_feed →
-      record { ok = true; next = i + 1; v = v } ≡ fields_at s k 0 zeros5 at
-  fields_end h t = sym (rw (none_left h, eq-eqb (peek_at s i) line_feed t)) ∙ m.same
-
-  pub fields_no_end : k ≤ j → (peek_at s i ≡ line_feed → ⊥) → bad_row ≡ fields_at s k 0 zeros5 at
-  fields_no_end h t = sym (rw (none_left h, ne_eqb (peek_at s i) line_feed t)) ∙ m.same
 
 -- ---- the line
 

@@ -1,5 +1,5 @@
 -- Laws of a text for which a buffer has room or has not, and of what then stands in the buffer. Assumes nothing.
-use Prim.Native.Nat.{ℕ, zero, suc, ◌+◌, ◌-◌, ◌*◌, ◌≤◌, ◌<◌}
+use Prim.Native.Nat.{ℕ, zero, suc, ◌+◌, ◌*◌, ◌≤◌}
 use mathlib.Core.Path.{◌≡◌, refl, sym, ap, ◌∙◌}
 use mathlib.Core.List.{List, [], ◌++◌, append_assoc}
 use mathlib.Core.Bool.{Bool, true, false, ◌&&◌}
@@ -7,7 +7,7 @@ use native.Mathlib.Omega.{arith}
 use lib.ListN.{length, get_or, take, drop, length-append, length-take}
 use lib.Seq.{sets-eq, length-sets, length-take-le, take_at, drop_at}
 use lib.Dec.{leb}
-use borrow.Author.Tests.{le-leb, lt-leb, leb-true, leb-false}
+use borrow.Author.Tests.{le-leb, leb-true}
 use Rattle.text.specs.Text.{Put, Ends, decimal, fields_text, row_text, in_room, word_in, number_in, row_in}
 use Rattle.text.proofs.Cases.{by_test, and_left, and_right}
 use Rattle.text.proofs.Writing.{put_nothing, decimal_length}
@@ -32,22 +32,10 @@ module _ (w v : List ℕ) (k : ℕ) (few : k ≤ 5) where
 -- ---- the tests of `has_room` and `row_has_room`: b is what they answer
 
 module _ (at n len : ℕ) where
-  pub room_past : len < at → false ≡ leb (at + n) len
-  room_past h = sym (lt-leb (at + n) len (omega arith))
-
-  pub room_left : at ≤ len → leb n (len - at) ≡ leb (at + n) len
-  room_left h =
-      by_test (leb n (len - at))
-      (λ e. e ∙ sym (le-leb (at + n) len (omega (arith, leb-true n (len - at) e))))
-      (λ e. e ∙ sym (lt-leb (at + n) len (omega (arith, leb-false n (len - at) e))))
-
   pub room_for : {b : Bool} → b ≡ leb (at + n) len → b ≡ true → at + n ≤ len
   room_for e t = leb-true (at + n) len (sym e ∙ t)
 
 module _ (at word k len : ℕ) where
-  pub row_room_many : 5 < k → false ≡ (leb k 5 && leb (at + (word + 11 * k + 1)) len)
-  row_room_many h = rw (lt-leb k 5 h)
-
   pub row_room_for : {b : Bool} → b ≡ (leb k 5 && leb (at + (word + 11 * k + 1)) len) → b ≡ true →
       (k ≤ 5) × (at + (word + 11 * k + 1) ≤ len)
   row_room_for e t =
@@ -55,19 +43,6 @@ module _ (at word k len : ℕ) where
         leb-true k 5 (and_left (leb k 5) fits (sym e ∙ t)),
         leb-true (at + (word + 11 * k + 1)) len (and_right (leb k 5) fits (sym e ∙ t)),
       )
-
-  module _ (few : k ≤ 5) {b : Bool} where
-    pub row_room_no_word : b ≡ leb (at + word) len → b ≡ false →
-        false ≡ (leb k 5 && leb (at + (word + 11 * k + 1)) len)
-    row_room_no_word e f =
-        let short : len < at + word = leb-false (at + word) len (sym e ∙ f) in
-        rw (le-leb k 5 few, lt-leb (at + (word + 11 * k + 1)) len (omega arith))
-
-    pub row_room_fields : b ≡ leb (at + word + (11 * k + 1)) len →
-        b ≡ (leb k 5 && leb (at + (word + 11 * k + 1)) len)
-    row_room_fields e =
-        let same : at + (word + 11 * k + 1) ≡ at + word + (11 * k + 1) = omega arith in
-        rw (le-leb k 5 few, same) e
 
 -- ---- what `put_word`, `put_number` and `put_row` leave, with room and without
 

@@ -189,7 +189,7 @@ word_back s (x ∷ w) u at e =
     rw (eq-eqb (peek_at s at) x p.0) (word_back s w u (at + 1) p.1)
 
 -- a line that stands written at a place is read there: the place after it, and its numbers, 0 past the last
-module _ (w v : List ℕ) (k : ℕ) (few : k ≤ 5) (five : length v ≡ 5) (small : Small v) where
+module _ (w v : List ℕ) (k : ℕ) (few : k ≤ 5) (enough : k ≤ length v) (small : Small v) where
   pub row_back : (s rest : List ℕ) (at : ℕ) → drop at s ≡ row_text w v k ++ rest →
       row_at s at w k ≡ record { ok = true; next = at + length (row_text w v k); v = take k v ++ drop k zeros5 }
   row_back s rest at e =

@@ -4,13 +4,12 @@ use Prim.Native.Nat.{ℕ, zero, suc, ◌+◌, ◌-◌, ◌*◌, ◌/◌, ◌%◌
 use mathlib.Core.Path.{◌≡◌, refl, sym, ap, ◌∙◌}
 use mathlib.Core.List.{List, [], ◌∷◌, ◌++◌, append_assoc}
 use native.Mathlib.Omega.{arith}
-use native.Mathlib.Nat.{add-zero, sub-zero}
-use native.Mathlib.Numerals.{add-one}
-use lib.ListN.{length, get_or, take, drop, set, length-append, length-set, drop_of_length-le}
+use native.Mathlib.Nat.{add-zero}
+use lib.ListN.{length, get_or, take, drop, set, length-append}
 use lib.Seq.{sets, sets-eq, drop-drop}
 use borrow.Rule.Slice.PartMut.{put_mid}
 use borrow.Author.Tests.{lt-ltb, le-ltb}
-use Rattle.text.specs.Line.{tab, line_feed}
+use Rattle.text.specs.Line.{tab}
 use Rattle.text.specs.Text.{Put, decimal_in, decimal, fields_text}
 use Rattle.text.proofs.Cases.{below_or_not}
 
@@ -51,16 +50,9 @@ unfolding decimal
 decimal_length n = digits_length 10 n
 
 module _ (l : List ℕ) (at n f : ℕ) where
-  pub digits_none : f ≡ 0 → Put l at (decimal_in f n) at l
-  digits_none e = rw e (put_nothing l at)
-
   module _ (h : f ≡ 0 → ⊥) where
     one_more : f ≡ suc (f - 1)
     one_more = omega arith
-
-    pub digits_one : n < 10 → {r : ℕ} {l₁ : List ℕ} → (r ≡ at + 1) × (l₁ ≡ set l at (48 + n)) →
-        Put l at (decimal_in f n) r l₁
-    digits_one k p = rw (one_more, lt-ltb n 10 k) (put_byte p)
 
     digits_split : 10 ≤ n → decimal_in f n ≡ decimal_in (f - 1) (n / 10) ++ ((48 + n % 10) ∷ [])
     digits_split k = ap (λ (g : ℕ). decimal_in g n) one_more ∙ rw (le-ltb n 10 k)
@@ -75,9 +67,6 @@ pub record Rest (l₀ : List ℕ) (at : ℕ) (T : List ℕ) (l : List ℕ) (i : 
   pub place : i + length t ≡ at + length T
   pub bytes : sets l i t ≡ sets l₀ at T
 
-rest_all : (l₀ : List ℕ) (at : ℕ) (T : List ℕ) → Rest l₀ at T l₀ at T
-rest_all l₀ at T = record { place = refl; bytes = refl }
-
 module _ {l₀ : List ℕ} {at : ℕ} {T : List ℕ} {l : List ℕ} {i : ℕ} where
   rest_less : {a t : List ℕ} {m : ℕ} {l₁ : List ℕ} → Rest l₀ at T l i (a ++ t) → Put l i a m l₁ → Rest l₀ at T l₁ m t
   rest_less {a} {t} r p =
@@ -85,9 +74,6 @@ module _ {l₀ : List ℕ} {at : ℕ} {T : List ℕ} {l : List ℕ} {i : ℕ} wh
         place = omega (arith, length-append a t, r.place, p.place);
         bytes = rw (p.bytes, p.place) (sets_append l i a t ∙ r.bytes);
       }
-
-  rest_none : Rest l₀ at T l i [] → Put l₀ at T i l
-  rest_none r = record { place = omega (arith, r.place); bytes = r.bytes }
 
 -- ---- a word that is copied
 
@@ -108,15 +94,6 @@ pub record Listed (l₀ : List ℕ) (at k : ℕ) (v l : List ℕ) (i j : ℕ) : 
   pub long : length l ≡ length l₀
   pub rest : Rest l₀ at (fields_text k 0 v) l i (fields_text (k - j) j v)
 
-pub listed_none : (l₀ : List ℕ) (at k : ℕ) (v : List ℕ) → at + 11 * k + 1 ≤ length l₀ → Listed l₀ at k v l₀ at 0
-listed_none l₀ at k v h =
-    record {
-      within = omega arith;
-      room = omega arith;
-      long = refl;
-      rest = rw sub-zero (rest_all l₀ at (fields_text k 0 v));
-    }
-
 module _ {l₀ : List ℕ} {at k : ℕ} {v l : List ℕ} {i j : ℕ} (m : Listed l₀ at k v l i j) where
   pub listed_more : j < k → {a : ℕ} {l₁ : List ℕ} → (a ≡ i + 1) × (l₁ ≡ set l i tab) →
       {r : ℕ} {l₂ : List ℕ} → Put l₁ a (decimal (get_or v j 0)) r l₂ → length l₂ ≡ length l →
@@ -131,10 +108,3 @@ module _ {l₀ : List ℕ} {at k : ℕ} {v l : List ℕ} {i j : ℕ} (m : Listed
         long = long ∙ m.long;
         rest = rest_less (rest_less all (put_byte p)) q;
       }
-
-  pub listed_all : k ≤ j → {r : ℕ} {l₁ : List ℕ} → (r ≡ i + 1) × (l₁ ≡ set l i line_feed) →
-      Put l₀ at (fields_text k 0 v) r l₁
-  listed_all h p =
-      let none_left : k - j ≡ 0 = omega arith in
-      let end : Rest l₀ at (fields_text k 0 v) l i ((line_feed ∷ []) ++ []) = rw none_left at m.rest in
-      rest_none (rest_less end (put_byte p))

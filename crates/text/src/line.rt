@@ -20,12 +20,15 @@ impl Row {
         ensures { result ≡ option_of_row (row_within (row_of self) j least limit) }
     {
         let x = *self.v.get(j)?;
-        if least <= x && x < limit { Some(self) } else { None }
+        if least <= x && x < limit {
+            Some(self)
+        } else {
+            None
+        }
     }
 }
 
 // Whether a word stands at a place. Where it does the place after it is a `usize`, which `row_at` then computes.
-#[tactic(auto, using(crate::proofs::Lines::word_starts))]
 fn word_at(s: &[u8], at: usize, word: &[u8]) -> bool
     ensures value { result ≡ word_at s.now at word.now }
     ensures fits { result ≡ true → at + length word.now ≤ 18446744073709551615 }
@@ -34,19 +37,18 @@ fn word_at(s: &[u8], at: usize, word: &[u8]) -> bool
 }
 
 // From a place behind the keyword on: k times a tab and a number, and the line feed.
-#[tactic(auto, using(crate::proofs::Lines::fields_go_on, crate::proofs::Lines::found_number, crate::proofs::Digits::peek_some))]
 fn fields_at(s: &[u8], at: usize, k: usize) -> Option<Row>
     requires { k ≤ 5 }
     ensures { result ≡ option_of_row (fields_at s.now k 0 zeros5 at) }
 {
     let mut v = [0; 5];
     let mut next = at;
-    for j in 0..k {
+    for x in &mut v[..k] {
         let Some(b'\t') = peek(s, next) else {
             return None;
         };
         let number = number_at(s, next + 1)?;
-        v[j] = number.value;
+        *x = number.value;
         next = number.next;
     }
     let Some(b'\n') = peek(s, next) else {

@@ -2,8 +2,8 @@
 ghost use Rattle.std.specs.Prelude.{◌≡◌, ◌+◌, ◌-◌, ◌*◌, ◌≤◌, min, drop};
 ghost use Rattle.text.specs.Number.{peek_at, byte_or_none, digits_in, value_from, number_at, option_of_field};
 
-// The largest value that `Run` tells apart from others.
-const LARGE: u64 = 4294967296;
+// The value at which a run is kept: one more than a number may be.
+const TOO_LARGE: u64 = 1 << 32;
 
 // A number, and the place after it.
 #[derive(Clone, Copy, PartialEq, Eq)]
@@ -20,7 +20,7 @@ struct Run {
     next: usize,
 }
 
-// The byte at a place, or none past the end: no reader but this one indexes the text, and none asks for its end.
+// The byte at a place, or none past the end. So no reader asks where the text ends.
 pub fn peek(s: &[u8], at: usize) -> Option<u8>
     ensures { result ≡ byte_or_none (peek_at s.now at) }
 {
@@ -32,11 +32,10 @@ fn shift(value: u64, c: u8) -> u64
     requires { (value ≤ 4294967296) × (48 ≤ c) × (c ≤ 57) }
     ensures { result ≡ min (10 * value + (c - 48)) 4294967296 }
 {
-    (10 * value + u64::from(c - b'0')).min(LARGE)
+    (10 * value + u64::from(c - b'0')).min(TOO_LARGE)
 }
 
 // The run of digits at a place, which may be empty.
-#[tactic(auto, using(crate::proofs::Digits::run_turns, crate::proofs::Digits::peek_some))]
 fn run_at(s: &[u8], at: usize) -> Run
     ensures value { result.value ≡ min (value_from 0 (drop at s.now)) 4294967296 }
     ensures next { result.next ≡ at + digits_in (drop at s.now) }

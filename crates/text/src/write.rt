@@ -3,8 +3,6 @@
 ghost use Rattle.std.specs.Prelude.{◌≡◌, ◌+◌, ◌*◌, ◌≤◌, ◌<◌, length, set};
 ghost use Rattle.text.specs.Text.{Puts, decimal_in, decimal, fields_text};
 
-const LINE_FEED: u8 = b'\n';
-
 fn write_byte(out: &mut [u8], at: usize, b: u8) -> usize
     requires { at < length out.old }
     ensures { (result ≡ at + 1) × (out.new ≡ set out.old at b) }
@@ -15,6 +13,7 @@ fn write_byte(out: &mut [u8], at: usize, b: u8) -> usize
 
 // The last f digits of n, without leading zeros. The digits before the last are written first, so that no width is
 // counted and nothing is turned round.
+#[tactic(auto, using(crate::proofs::Room::put_long, crate::proofs::Writing::digits_length))]
 fn write_digits(out: &mut [u8], at: usize, n: u32, f: usize) -> usize
     requires { at + f ≤ length out.old }
     ensures { Puts out at (decimal_in f n) result }
@@ -30,6 +29,7 @@ fn write_digits(out: &mut [u8], at: usize, n: u32, f: usize) -> usize
 }
 
 // A number in decimal; ten digits are enough for a `u32`.
+#[tactic(auto, unfolding(crate::specs::Text::decimal))]
 pub fn write_number(out: &mut [u8], at: usize, n: u32) -> usize
     requires { at + 10 ≤ length out.old }
     ensures { Puts out at (decimal n) result }
@@ -57,5 +57,5 @@ pub fn write_fields(out: &mut [u8], at: usize, numbers: &[u32]) -> usize
         end = write_byte(out, end, b'\t');
         end = write_number(out, end, *n);
     }
-    write_byte(out, end, LINE_FEED)
+    write_byte(out, end, b'\n')
 }

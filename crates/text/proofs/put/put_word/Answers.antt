@@ -1,12 +1,6 @@
 -- The two cases of `Room`: with room and without.
-use lib.ListN.{length}
-use Rattle.text.proofs.Room.{room_for, word_put, word_not_put}
+use Rattle.text.proofs.Room.{word_put, word_not_put}
 use Rattle.text.proofs.put.put_word.Goals as goal
-
-pub write_word-requires : goal.write_word-requires
-write_word-requires c =
-    room_for c.args.at (length c.args.word.now) (length c.args.out.now) c.has_room.ensures
-    c.if-has_room.true
 
 pub returns-then-has_room : goal.returns-then-has_room
 returns-then-has_room c =
