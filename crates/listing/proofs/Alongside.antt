@@ -6,7 +6,7 @@ use mathlib.Core.List.{List}
 use native.Mathlib.Omega.{arith}
 use lib.ListN.{length}
 use Rattle.text.specs.Number.{peek_at}
-use Rattle.text.specs.declared.line.Row.{Row}
+use Rattle.text.specs.Line.{Row}
 use Rattle.text.proofs.OneLine.{Linewise}
 use Rattle.listing.specs.Lines.{field, head_row}
 use Rattle.listing.specs.Listing.{zeros, Cells, cells_at, Entries, Dos, dos_at}

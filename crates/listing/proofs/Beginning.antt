@@ -6,7 +6,7 @@ use mathlib.Core.Bool.{true}
 use native.Mathlib.Omega.{arith}
 use lib.ListN.{drop}
 use Rattle.text.specs.FirstLines.{first_lines, line_count}
-use Rattle.text.specs.declared.line.Row.{Row}
+use Rattle.text.specs.Line.{Row}
 use Rattle.text.proofs.SameLines.{Alike, alike_linewise, alike_none, first_then, Counted, counted_start, counted_linewise, counted_enough}
 use Rattle.listing.specs.Lines.{head_row}
 use Rattle.listing.specs.Listing.{Cells, Entries, Dos, wrong}

@@ -10,7 +10,7 @@ use lib.Seq.{drop-drop, drop-append_seam, get_or-drop}
 use Rattle.text.specs.Number.{peek_at}
 use Rattle.text.specs.Line.{row_at}
 use Rattle.text.specs.Text.{row_text}
-use Rattle.text.specs.declared.line.Row.{Row}
+use Rattle.text.specs.Line.{Row}
 use Rattle.text.proofs.Lines.{within_limits}
 use Rattle.text.proofs.Round.{Small, row_back}
 use Rattle.text.proofs.Stars.{star_none}
@@ -20,7 +20,7 @@ use Rattle.listing.specs.Lines.{field, head_row, size_row, cell_row, right_at, g
 use Rattle.listing.specs.Listing.{zeros, Cells, with_cell, cells_at, Entries, rises, with_next, entries_at, Dos, with_do, dos_at}
 use Rattle.listing.specs.Output.{core_line}
 use Rattle.listing.specs.First.{IsListing}
-use Rattle.listing.specs.declared.entries.Entry.{Entry}
+use Rattle.listing.specs.Lines.{Entry}
 use Rattle.listing.proofs.LinesBack.{core_back}
 use Rattle.listing.proofs.LineKinds.{cell_kind, right_kind, grant_kind, byte_kind, core_kind, do_kind, second_differs, none_at_end, moves_on}
 use Rattle.listing.proofs.Stages.{Before, text_right}
@@ -133,7 +133,7 @@ size_completes t head e =
     let p = (head_row t 0).next in
     let u = row_text size_word one 2 in
     let z : Row = record { ok = true; next = p + length u; v = one } in
-    let row : row_at t p size_word 2 ≡ z = row_back size_word one 2 (omega arith) refl one_small t core_text p e in
+    let row : row_at t p size_word 2 ≡ z = row_back size_word one 2 (omega arith) (omega arith) one_small t core_text p e in
     let size : size_row t p ≡ z =
     rw (
       row,
@@ -150,6 +150,6 @@ head_completes =
     let v = size_text ++ core_text in
     let t = u ++ v in
     let h : Row = record { ok = true; next = 0 + length u; v = one } in
-    let row : row_at t 0 cells_word 1 ≡ h = row_back cells_word one 1 (omega arith) refl one_small t v 0 refl in
+    let row : row_at t 0 cells_word 1 ≡ h = row_back cells_word one 1 (omega arith) (omega arith) one_small t v 0 refl in
     let head : head_row t 0 ≡ h = rw (row, ← within_limits h 0 1 2 (omega arith) (omega arith) (omega arith)) in
     size_completes t (ap (λ (r : Row). r.ok) head) (rw head (behind t 0 u v refl))

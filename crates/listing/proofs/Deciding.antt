@@ -6,7 +6,7 @@ use mathlib.Core.List.{List}
 use mathlib.Core.Bool.{true, false}
 use native.Mathlib.Omega.{arith}
 use lib.ListN.{length, drop, drop_of_length-le}
-use Rattle.text.specs.declared.line.Row.{Row}
+use Rattle.text.specs.Line.{Row}
 use Rattle.text.specs.FirstLines.{first_lines}
 use Rattle.text.proofs.SameLines.{Alike, after_lines, alike_linewise, alike_ended}
 use Rattle.listing.specs.Lines.{head_row, size_row, core_row}

@@ -16,7 +16,7 @@ use Rattle.text.proofs.Cases.{by_test}
 use Rattle.text.proofs.Stars.{star_more}
 use Rattle.listing.specs.Listing.{zeros, Entries, with_entry, rises, with_next, more_entries, entries_at}
 use Rattle.listing.specs.Output.{lines_of}
-use Rattle.listing.specs.declared.entries.Entry.{Entry}
+use Rattle.listing.specs.Lines.{Entry}
 
 -- ---- the first e entries of a list, and then j times 0
 

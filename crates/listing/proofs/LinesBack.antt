@@ -12,7 +12,7 @@ use borrow.Author.Tests.{eqb-true}
 use Rattle.text.specs.Number.{peek_at}
 use Rattle.text.specs.Line.{word_at, row_at, row_within}
 use Rattle.text.specs.Text.{row_text, fields_text}
-use Rattle.text.specs.declared.line.Row.{Row}
+use Rattle.text.specs.Line.{Row}
 use Rattle.text.proofs.Cases.{by_test, and_left, and_right}
 use Rattle.text.proofs.Digits.{peek_drop}
 use Rattle.text.proofs.Lines.{within_limits}
@@ -46,13 +46,13 @@ row4 next a b c d = record { ok = true; next = next; v = a ∷ b ∷ c ∷ d ∷
 module _ (s rest : List ℕ) (at : ℕ) (w : List ℕ) (a b c : ℕ) (f : a ≤ 4294967295) (g : b ≤ 4294967295) (h : c ≤ 4294967295) where
   pub line3_back : drop at s ≡ line3 w a b c ++ rest → row_at s at w 3 ≡ row3 (at + length (line3 w a b c)) a b c
   line3_back e =
-      row_back w (a ∷ b ∷ c ∷ 0 ∷ 0 ∷ []) 3 (omega arith) refl
+      row_back w (a ∷ b ∷ c ∷ 0 ∷ 0 ∷ []) 3 (omega arith) (omega arith)
       (small_five a b c 0 0 f g h (omega arith) (omega arith)) s rest at e
 
   line4_back : (d : ℕ) → d ≤ 4294967295 → drop at s ≡ line4 w a b c d ++ rest
       → row_at s at w 4 ≡ row4 (at + length (line4 w a b c d)) a b c d
   line4_back d i e =
-      row_back w (a ∷ b ∷ c ∷ d ∷ 0 ∷ []) 4 (omega arith) refl
+      row_back w (a ∷ b ∷ c ∷ d ∷ 0 ∷ []) 4 (omega arith) (omega arith)
       (small_five a b c d 0 f g h i (omega arith)) s rest at e
 
 -- a line is not shorter than its keyword

@@ -1,20 +1,27 @@
 -- Laws of the loops that read lines of one kind: what holds after so many lines. Assumes nothing.
 use Prim.Native.Nat.{ℕ, ◌+◌, ◌-◌, ◌*◌, ◌≤◌, ◌<◌}
 use mathlib.Core.Path.{◌≡◌, refl, sym, ap, ◌∙◌}
-use mathlib.Core.List.{List, [], ◌∷◌, ◌++◌, append_assoc}
+use mathlib.Core.List.{List, [], ◌∷◌, ◌++◌, map, append_assoc}
 use mathlib.Core.Bool.{true, false, ◌&&◌}
 use native.Mathlib.Omega.{arith}
 use native.Mathlib.Nat.{sub-zero}
 use native.Mathlib.Numerals.{add-one}
-use lib.ListN.{length, set, take, length-set}
-use lib.Seq.{take-suc-set}
+use lib.ListN.{length, get_or, set, take, drop, length-set, length-drop}
+use lib.Seq.{take-suc-set, length-take-le}
+use Rattle.std.proofs.lemmas.Slice.{take-put_mid}
 use lib.Dec.{leb}
-use Rattle.text.specs.declared.line.Row.{Row}
+use borrow.Rule.Slice.PartMut.{put_mid, mid_of, same_len_mid}
+use Rattle.std.proofs.Common.{Some, None}
+use Rattle.text.specs.Line.{Row, option_of_row, row_of}
+use Rattle.text.specs.declared.line.Row.{Row as Found}
+use Rattle.text.proofs.Lines.{found_row, no_row}
 use Rattle.text.proofs.Stars.{star_stop, star_more, star_full}
 use Rattle.listing.specs.Lines.{field, cell_row, do_row}
 use Rattle.listing.specs.Listing.{Cells, with_cell, more_cells, cells_at, Entries, with_entry, rises, with_next, more_entries, entries_at, Dos, with_do, more_dos, dos_at}
 use Rattle.listing.specs.Reading.{FilledAs}
-use Rattle.listing.specs.declared.entries.Entry.{Entry}
+use Rattle.listing.specs.declared.lines.Passed.{Passed}
+use Rattle.std.proofs.lemmas.List.{map-id}
+use Rattle.listing.specs.Lines.{Entry}
 use Rattle.listing.proofs.Rows.{do_advance}
 
 -- one entry more at the front
@@ -39,11 +46,13 @@ module _ {s : List ℕ} {at n i : ℕ} {first last offset marks : List ℕ} (h :
   abbrev now_read : Cells
   now_read = front n i first last offset marks
 
-  pub cells_more : n < 256 → (r : Row) → r ≡ cell_row s i → r.ok ≡ true
-      → CellsRead s at (n + 1) r.next (set first n (field r 0)) (set last n (field r 1)) (set offset n (field r 2)) (set marks n (field r 3))
-  cells_more k r e ok =
+  pub cells_more : n < 256 → {f : Found} → Some f ≡ option_of_row (cell_row s i)
+      → CellsRead s at (n + 1) f.next (set first n (get_or f.v 0 0)) (set last n (get_or f.v 1 0)) (set offset n (get_or f.v 2 0)) (set marks n (get_or f.v 3 0))
+  cells_more k {f} q =
+      let r = row_of f in
+      let e : r ≡ cell_row s i = sym (found_row (cell_row s i) q) in
       let go = star_more (λ (c : Cells). (cell_row s c.next).ok) (λ (c : Cells). with_cell c (cell_row s c.next)) now_read 256 n k
-      (ap (λ (r : Row). r.ok) (sym e) ∙ ok) in
+      (ap (λ (r : Row). r.ok) (sym e)) in
       record {
         few = omega arith;
         firsts = length-set first n (field r 0) ∙ h.firsts;
@@ -60,15 +69,18 @@ module _ {s : List ℕ} {at n i : ℕ} {first last offset marks : List ℕ} (h :
             (ap (λ (r : Row). more_cells s (256 - (n + 1)) (with_cell now_read r)) e ∙ sym go ∙ h.same);
       }
 
-  pub cells_stop : n < 256 → (r : Row) → r ≡ cell_row s i → r.ok ≡ false → cells_at s at ≡ now_read
-  cells_stop k r e f =
+  pub cells_stop : n < 256 → None ≡ option_of_row (cell_row s i) → cells_at s at ≡ now_read
+  cells_stop k q =
       sym h.same
       ∙ star_stop (λ (c : Cells). (cell_row s c.next).ok) (λ (c : Cells). with_cell c (cell_row s c.next)) now_read 256 n k
-      (ap (λ (r : Row). r.ok) (sym e) ∙ f)
+      (no_row (cell_row s i) q)
 
-  pub cells_full : 256 ≤ n → cells_at s at ≡ now_read
+  pub cells_full : 256 ≤ n → cells_at s at ≡ front 256 i first last offset marks
   cells_full k =
-      sym h.same ∙ star_full (λ (c : Cells). (cell_row s c.next).ok) (λ (c : Cells). with_cell c (cell_row s c.next)) now_read 256 n k
+      let all : n ≡ 256 = omega (arith, h.few) in
+      sym h.same
+      ∙ star_full (λ (c : Cells). (cell_row s c.next).ok) (λ (c : Cells). with_cell c (cell_row s c.next)) now_read 256 n k
+      ∙ ap (λ (m : ℕ). front m i first last offset marks) all
 
 -- ---- right, grant and byte lines: n of them are read into the list, i is the place after them, and the next names an entry
 -- from least on
@@ -85,15 +97,15 @@ module _ {line : ℕ → Entry} {k at : ℕ} {list₀ : List ℕ} {n i least : �
   abbrev filled_now : Entries
   filled_now = record { count = n; next = i; least = least; list = list }
 
-  pub entries_more : n < k → (e : Entry) → e ≡ line i → (e.ok && leb least e.key) ≡ true
+  pub entries_more : n < k → (e : Entry) → line i ≡ e → (e.ok && leb least e.key) ≡ true
       → EntriesRead line k at list₀ (n + 1) e.next (e.key + 1) (set list e.key e.value)
   entries_more f e q ok =
       record {
         few = omega arith;
         long = length-set list e.key e.value ∙ h.long;
         same =
-            ap (λ (e : Entry). more_entries line (k - (n + 1)) (with_entry filled_now e)) q
-            ∙ sym (star_more (rises line) (with_next line) filled_now k n f (ap (λ (e : Entry). e.ok && leb least e.key) (sym q) ∙ ok))
+            ap (λ (e : Entry). more_entries line (k - (n + 1)) (with_entry filled_now e)) (sym q)
+            ∙ sym (star_more (rises line) (with_next line) filled_now k n f (ap (λ (e : Entry). e.ok && leb least e.key) q ∙ ok))
             ∙ h.same;
       }
 
@@ -105,14 +117,22 @@ module _ {line : ℕ → Entry} {k at : ℕ} {list₀ : List ℕ} {n i least : �
         filled = ap (λ (t : Entries). t.list) q;
       }
 
-  pub entries_stop : n < k → (e : Entry) → e ≡ line i → (e.ok && leb least e.key) ≡ false
-      → FilledAs (entries_at line k at list₀) (record { count = n; next = i }) list
-  entries_stop g e q f =
-      filled_as
-      (sym (star_stop (rises line) (with_next line) filled_now k n g (ap (λ (e : Entry). e.ok && leb least e.key) (sym q) ∙ f)) ∙ h.same)
+  pub entries_stop : n < k → rises line filled_now ≡ false → FilledAs (entries_at line k at list₀) (record { count = n; next = i }) list
+  entries_stop g f = filled_as (sym (star_stop (rises line) (with_next line) filled_now k n g f) ∙ h.same)
 
-  pub entries_full : k ≤ n → FilledAs (entries_at line k at list₀) (record { count = n; next = i }) list
-  entries_full f = filled_as (sym (star_full (rises line) (with_next line) filled_now k n f) ∙ h.same)
+  pub entries_full : k ≤ n → FilledAs (entries_at line k at list₀) (record { count = k; next = i }) list
+  entries_full f =
+      let q = sym (star_full (rises line) (with_next line) filled_now k n f) ∙ h.same in
+      record {
+        counted = omega (arith, h.few, ap (λ (t : Entries). t.count) q);
+        ended = ap (λ (t : Entries). t.next) q;
+        filled = ap (λ (t : Entries). t.list) q;
+      }
+
+-- the values are numbers as they are
+pub filled_plain : (line : ℕ → Entry) (k at : ℕ) (list₀ list : List ℕ) (p : Passed)
+    → FilledAs (entries_at line k at (map (λ (x : ℕ). x) list₀)) p (map (λ (x : ℕ). x) list) → FilledAs (entries_at line k at list₀) p list
+filled_plain line k at list₀ list p h = rw (map-id list₀, map-id list) at h
 
 -- ---- do lines: n of them are read into the front of the list, and i is the place after them
 
@@ -130,59 +150,60 @@ pub dos_none : (s : List ℕ) (at : ℕ) (list : List ℕ) → length list ≡ 2
 dos_none s at list e = record { few = omega arith; short = omega arith; ends = omega arith; long = e; same = rw sub-zero }
 
 -- four numbers more at the front
-four_more : (l : List ℕ) (k a b c d : ℕ) → k + 3 < length l
-    → take (k + 4) (set (set (set (set l k a) (k + 1) b) (k + 2) c) (k + 3) d) ≡ take k l ++ (a ∷ b ∷ c ∷ d ∷ [])
-four_more l k a b c d h =
-    let l₁ = set l k a in
-    let l₂ = set l₁ (k + 1) b in
-    let l₃ = set l₂ (k + 2) c in
-    let e₁ : length l₁ ≡ length l = length-set l k a in
-    let e₂ : length l₂ ≡ length l = length-set l₁ (k + 1) b ∙ e₁ in
-    let e₃ : length l₃ ≡ length l = length-set l₂ (k + 2) c ∙ e₂ in
-    let p₂ : k + 1 + 1 ≡ k + 2 = omega arith in
-    let p₃ : k + 2 + 1 ≡ k + 3 = omega arith in
-    let p₄ : k + 3 + 1 ≡ k + 4 = omega arith in
-    let q₁ = front_more l k a (omega arith) in
-    let q₂ = rw p₂ at (front_more l₁ (k + 1) b (omega arith)) in
-    let q₃ = rw p₃ at (front_more l₂ (k + 2) c (omega arith)) in
-    let q₄ = rw p₄ at (front_more l₃ (k + 3) d (omega arith)) in
-    q₄ ∙ rw (q₃, q₂, q₁, append_assoc, append_assoc, append_assoc)
+four_front : (v : List ℕ) → length (take 4 v) ≡ 4 → take 4 v ≡ get_or v 0 0 ∷ get_or v 1 0 ∷ get_or v 2 0 ∷ get_or v 3 0 ∷ []
+four_front [] h = absurd (omega arith)
+four_front (a ∷ []) h = absurd (omega arith)
+four_front (a ∷ b ∷ []) h = absurd (omega arith)
+four_front (a ∷ b ∷ c ∷ []) h = absurd (omega arith)
+four_front (a ∷ b ∷ c ∷ d ∷ v) h = refl
 
-module _ {s : List ℕ} {at n i : ℕ} {list : List ℕ} (small : length s ≤ 65536) (h : DosRead s at n i list) (r : Row) (e : r ≡ do_row s i) where
+module _ {s : List ℕ} {at n i : ℕ} {list : List ℕ} (small : length s ≤ 65536) (h : DosRead s at n i list) where
   -- where a line stands, there is room for its numbers
-  pub do_room : r.ok ≡ true → (n + 1 ≤ 5957) × (11 * (n + 1) ≤ r.next)
-  do_room ok =
-      let a = do_advance s i (ap (λ (r : Row). r.ok) (sym e) ∙ ok) in
-      let p : i + 11 ≤ r.next = rw e a.0 in
-      let q : r.next ≤ length s = rw e a.1 in
+  pub do_room : {f : Found} → Some f ≡ option_of_row (do_row s i) → (n + 1 ≤ 5957) × (11 * (n + 1) ≤ f.next)
+  do_room {f} q =
+      let e : do_row s i ≡ row_of f = found_row (do_row s i) q in
+      let a = do_advance s i (ap (λ (r : Row). r.ok) e) in
+      let p : i + 11 ≤ f.next = rw e at a.0 in
+      let q : f.next ≤ length s = rw e at a.1 in
       (omega (arith, h.ends), omega (arith, h.ends))
 
-  pub dos_more : n < length s → r.ok ≡ true
-      → DosRead s at (n + 1) r.next
-      (set (set (set (set list (4 * n) (field r 0)) (4 * n + 1) (field r 1)) (4 * n + 2) (field r 2)) (4 * n + 3) (field r 3))
-  dos_more k ok =
-      let room = do_room ok in
-      let four_on : 4 * (n + 1) ≡ 4 * n + 4 = omega arith in
+  pub dos_more : n < length s → {f : Found} → Some f ≡ option_of_row (do_row s i)
+      → {c : List ℕ} → c ≡ take 4 f.v → length c ≡ length (mid_of (4 * n) (4 * n + 4 - 4 * n) list)
+      → DosRead s at (n + 1) f.next (put_mid (4 * n) (4 * n + 4 - 4 * n) list c)
+  dos_more k {f} q {c} w l =
+      let e : do_row s i ≡ row_of f = found_row (do_row s i) q in
+      let room = do_room q in
+      let k₀ = 4 * n in
+      let new = put_mid k₀ (k₀ + 4 - k₀) list c in
+      let four : length c ≡ 4 =
+      omega (arith, l, length-take-le (k₀ + 4 - k₀) (drop k₀ list) (omega (arith, length-drop k₀ list, h.long)), length-drop k₀ list, h.long) in
+      let four_on : 4 * (n + 1) ≡ k₀ + 4 = omega arith in
+      let front : take (4 * (n + 1)) new ≡ take k₀ list ++ (get_or f.v 0 0 ∷ get_or f.v 1 0 ∷ get_or f.v 2 0 ∷ get_or f.v 3 0 ∷ []) =
+      ap (λ (m : ℕ). take m new) four_on
+      ∙ take-put_mid k₀ (k₀ + 4 - k₀) list c (k₀ + 4) (omega arith) (omega (arith, h.long))
+      ∙ ap (λ (u : List ℕ). take k₀ list ++ u) (w ∙ four_front f.v (ap length (sym w) ∙ four)) in
       record {
         few = omega arith;
         short = room.0;
         ends = room.1;
-        long = simp length-set h.long;
+        long = same_len_mid (4 * n) (4 * n + 4 - 4 * n) list c l ∙ h.long;
         same =
-            rw (four_on, four_more list (4 * n) (field r 0) (field r 1) (field r 2) (field r 3) (omega (arith, h.long, room.0)))
-            (ap (λ (r : Row). more_dos s (length s - (n + 1)) (with_do (listed n i list) r)) e
+            ap (λ (u : List ℕ). more_dos s (length s - (n + 1)) (record { count = n + 1; next = f.next; numbers = u })) front
+            ∙ ap (λ (r : Row). more_dos s (length s - (n + 1)) (with_do (listed n i list) r)) (sym e)
             ∙ sym (star_more (λ (d : Dos). (do_row s d.next).ok) (λ (d : Dos). with_do d (do_row s d.next)) (listed n i list) (length s) n k
-            (ap (λ (r : Row). r.ok) (sym e) ∙ ok))
-            ∙ h.same);
+            (ap (λ (r : Row). r.ok) e))
+            ∙ h.same;
       }
 
-  pub dos_stop : n < length s → r.ok ≡ false → dos_at s at ≡ listed n i list
-  dos_stop k f =
+  pub dos_stop : n < length s → None ≡ option_of_row (do_row s i) → dos_at s at ≡ listed n i list
+  dos_stop k q =
       sym h.same
       ∙ star_stop (λ (d : Dos). (do_row s d.next).ok) (λ (d : Dos). with_do d (do_row s d.next)) (listed n i list) (length s) n k
-      (ap (λ (r : Row). r.ok) (sym e) ∙ f)
+      (no_row (do_row s i) q)
 
-pub dos_full : {s : List ℕ} {at n i : ℕ} {list : List ℕ} → DosRead s at n i list → length s ≤ n → dos_at s at ≡ listed n i list
+pub dos_full : {s : List ℕ} {at n i : ℕ} {list : List ℕ} → DosRead s at n i list → length s ≤ n → dos_at s at ≡ listed (length s) i list
 dos_full {s} {at} {n} {i} {list} h k =
+    let all : n ≡ length s = omega (arith, h.few) in
     sym h.same
     ∙ star_full (λ (d : Dos). (do_row s d.next).ok) (λ (d : Dos). with_do d (do_row s d.next)) (listed n i list) (length s) n k
+    ∙ ap (λ (m : ℕ). listed m i list) all

@@ -3,21 +3,22 @@ use Prim.Native.Nat.{ℕ, suc, ◌+◌, ◌*◌, ◌≤◌, ◌<◌}
 use mathlib.Core.Path.{◌≡◌, refl, sym, ap, ◌∙◌}
 use mathlib.Core.List.{List}
 use mathlib.Core.Bool.{Bool, true, ◌&&◌}
+use Rattle.std.proofs.Common.{Option, Some, None}
+use Rattle.std.proofs.lemmas.Option.{same_Some, none-some}
 use native.Mathlib.Omega.{arith}
 use native.Mathlib.Nat.{mul-le-mul_right, mul-le-mul, suc-mul}
 use lib.ListN.{length, get_or}
 use lib.Dec.{ltb, leb}
 use borrow.Author.Tests.{ltb-true}
 use Rattle.text.specs.Line.{bad_row, row_at, row_within}
-use Rattle.text.specs.declared.line.Row.{Row}
+use Rattle.text.specs.Line.{Row}
 use Rattle.text.proofs.Cases.{by_test, and_right}
 use Rattle.text.proofs.Lines.{within_passed}
 use Rattle.text.proofs.Advance.{row_advance}
 use Rattle.listing.specs.Words.{right_word, grant_word, byte_word, cell_word, size_word, do_word}
-use Rattle.listing.specs.Lines.{field, size_row, cell_row, right_row, grant_row, byte_row, do_row, right_at, grant_at, byte_at}
-use Rattle.listing.specs.Reading.{line_of, size_of}
-use Rattle.listing.specs.declared.entries.Kind.{Kind}
-use Rattle.listing.specs.declared.entries.Kind.TheVariants.{Right, Byte}
+use Rattle.listing.specs.Lines.{field, size_row, cell_row, right_row, grant_row, byte_row, do_row, Entry, option_of_entry, right_at, grant_at, byte_at}
+use Rattle.listing.specs.Reading.{Told}
+use Rattle.listing.specs.declared.entries.Entry.{Entry as Found}
 
 module _ (r : Row) (j least limit : ℕ) where
   abbrev passes : Bool
@@ -107,6 +108,12 @@ module _ (n m : ℕ) (s : List ℕ) (at : ℕ) where
   unfolding grant_row
   grant_below = within_below granted 3 1 8 refl (omega arith)
 
+  pub target_most : field (grant_row n m s at) 2 ≤ m
+  unfolding grant_row
+  target_most =
+      within_either granted 3 1 8 (λ (r : Row). field r 2 ≤ m)
+      (within_most (row_within (row_within (row_at s at grant_word 4) 0 0 n) 1 0 m) 2 0 m refl) (omega arith)
+
   pub target_below : 1 ≤ m → field (grant_row n m s at) 2 < m
   unfolding grant_row
   target_below h =
@@ -151,16 +158,31 @@ byte_inside l s at e =
     let p₀ = within_ok r₀ 0 0 l p₁.0 in
     rw (p₁.1, p₀.1) p₀.2
 
--- ---- the same of both kinds whose values are bytes
+-- ---- an answer names what the line names
 
-pub kind_inside : (k : Kind) (s : List ℕ) (at : ℕ) → (line_of k s at).ok ≡ true → (line_of k s at).key < size_of k
-kind_inside (Right n m) s at e = right_inside n m s at e
-kind_inside (Byte l) s at e = byte_inside l s at e
+-- it is the line
+pub entry_found : (t : Entry) {e : Found ℕ} → Some e ≡ option_of_entry t → t ≡ record { ok = true; next = e.next; key = e.key; value = e.value }
+entry_found t {e} q =
+    by_test t.ok
+    (λ h.
+    let same : ◌≡◌ {A = Option (Found ℕ)} (Some e) (Some (record { next = t.next; key = t.key; value = t.value })) = q ∙ rw h in
+    ap (λ (b : Bool). record { ok = b; next = t.next; key = t.key; value = t.value }) h
+    ∙ ap (λ (e : Found ℕ). record { ok = true; next = e.next; key = e.key; value = e.value }) (sym (same_Some _ _ same)))
+    (λ h. absurd (none-some e (sym (q ∙ rw h))))
 
-pub kind_byte : (k : Kind) (s : List ℕ) (at : ℕ) → (line_of k s at).value < 256
-unfolding right_at byte_at
-kind_byte (Right n m) s at = omega (arith, rights_below n m s at)
-kind_byte (Byte l) s at = byte_below l s at
+pub told : (t : Entry) (r : Option (Found ℕ)) → r ≡ option_of_entry t → Told (λ (x : ℕ). x) r t
+told t None q = by_test t.ok (λ h. absurd (none-some (record { next = t.next; key = t.key; value = t.value }) (q ∙ rw h))) (λ h. h)
+told t (Some e) q = entry_found t q
+
+-- so the entry that it names lies in the list
+pub right_key : (n m : ℕ) (s : List ℕ) (at : ℕ) {e : Found ℕ} → Some e ≡ option_of_entry (right_at n m s at) → e.key < n * m
+right_key n m s at q = let t = entry_found (right_at n m s at) q in rw t at (right_inside n m s at (ap (λ (t : Entry). t.ok) t))
+
+pub grant_key : (n m : ℕ) (s : List ℕ) (at : ℕ) {e : Found ℕ} → Some e ≡ option_of_entry (grant_at n m s at) → e.key < n * m
+grant_key n m s at q = let t = entry_found (grant_at n m s at) q in rw t at (grant_inside n m s at (ap (λ (t : Entry). t.ok) t))
+
+pub byte_key : (l : ℕ) (s : List ℕ) (at : ℕ) {e : Found ℕ} → Some e ≡ option_of_entry (byte_at l s at) → e.key < l
+byte_key l s at q = let t = entry_found (byte_at l s at) q in rw t at (byte_inside l s at (ap (λ (t : Entry). t.ok) t))
 
 -- ---- a do line has at least 11 bytes
 

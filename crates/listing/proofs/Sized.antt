@@ -11,7 +11,7 @@ use lib.ListN.{length, get_or, length-set, length-append, length-replicate}
 use lib.Dec.{leb, eqb}
 use borrow.Author.Tests.{le-leb, leb-true, eq-eqb}
 use Rattle.text.specs.Star.{star}
-use Rattle.text.specs.declared.line.Row.{Row}
+use Rattle.text.specs.Line.{Row}
 use Rattle.text.proofs.Cases.{by_test}
 use Rattle.text.proofs.Stars.{star_keeps}
 use Rattle.rules.specs.Numbers.{Tables, State, tables, in_bounds, right_lengths}
@@ -20,7 +20,7 @@ use Rattle.rules.proofs.Sizes.{after_put}
 use Rattle.rules.proofs.Small.{Small}
 use Rattle.listing.specs.Lines.{field, head_row, size_row, cell_row, right_at, grant_at, byte_at, core_row, do_row}
 use Rattle.listing.specs.Listing.{Text, run, wrong, zeros, Cells, with_cell, more_cells, cells_at, Entries, rises, with_next, entries_at, Dos, with_do, more_dos, dos_at, from_dos, from_core, from_rights, from_size, from_head, listing_in}
-use Rattle.listing.specs.declared.entries.Entry.{Entry}
+use Rattle.listing.specs.Lines.{Entry}
 use Rattle.listing.proofs.Rows.{size_divisions, size_bytes, rights_below, byte_below}
 
 -- ---- cell lines

@@ -7,7 +7,7 @@ use native.Mathlib.Omega.{arith}
 use lib.ListN.{length}
 use lib.Dec.{eqb}
 use borrow.Author.Tests.{eqb-true, eqb-false, eq-eqb, ne_eqb}
-use Rattle.text.specs.declared.line.Row.{Row}
+use Rattle.text.specs.Line.{Row}
 use Rattle.text.proofs.Cases.{by_test}
 use Rattle.rules.specs.Numbers.{Tables, state, tables}
 use Rattle.listing.specs.Lines.{field, head_row, size_row, right_at, grant_at, byte_at, core_row, registers_in}

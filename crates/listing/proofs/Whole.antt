@@ -9,7 +9,7 @@ use lib.Seq.{get_or-set_same, get_or-set_other}
 use lib.Dec.{eqb}
 use borrow.Author.Tests.{eqb-true, eqb-false, eq-eqb, ne_eqb, le-leb, lt-leb}
 use Rattle.text.specs.Text.{Put, Ends}
-use Rattle.text.specs.declared.line.Row.{Row}
+use Rattle.text.specs.Line.{Row}
 use Rattle.text.proofs.Cases.{by_test}
 use Rattle.text.proofs.Writing.{put_then}
 use Rattle.text.proofs.Room.{put_long}

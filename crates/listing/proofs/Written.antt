@@ -13,7 +13,7 @@ use Rattle.text.proofs.Cases.{below_or_not}
 use Rattle.text.proofs.Round.{tens}
 use Rattle.text.proofs.Room.{put_long, row_fits, row_line, row_length}
 use Rattle.listing.specs.Words.{answer_word, right_word, grant_word}
-use Rattle.listing.specs.Output.{line3, line4, lines_of, right_line, grant_line}
+use Rattle.listing.specs.Output.{line1, line3, line4, lines_of, right_line, grant_line}
 
 -- a line for which there is room: the text, and where it ends
 module _ (w v : List ℕ) (k : ℕ) {l l₁ : List ℕ} {at r : ℕ} (few : k ≤ 5) (room : at + (length w + 11 * k + 1) ≤ length l)
@@ -23,6 +23,20 @@ module _ (w v : List ℕ) (k : ℕ) {l l₁ : List ℕ} {at r : ℕ} (few : k �
 
   pub row_short : r ≤ at + (length w + 11 * k + 1)
   row_short = omega (arith, row_put.place, row_length w v k few)
+
+-- a line of one, three or four numbers, of which no more were given
+module _ {l l₁ : List ℕ} {at r : ℕ} (w : List ℕ) (a : ℕ) where
+  pub put1 : Put l at (row_text w (a ∷ []) 1) r l₁ → Put l at (line1 w a) r l₁
+  unfolding row_text
+  put1 p = p
+
+  pub put3 : (b c : ℕ) → Put l at (row_text w (a ∷ b ∷ c ∷ []) 3) r l₁ → Put l at (line3 w a b c) r l₁
+  unfolding row_text
+  put3 b c p = p
+
+  pub put4 : (b c d : ℕ) → Put l at (row_text w (a ∷ b ∷ c ∷ d ∷ []) 4) r l₁ → Put l at (line4 w a b c d) r l₁
+  unfolding row_text
+  put4 b c d p = p
 
 -- ---- how long a line is
 

@@ -1,12 +1,11 @@
 -- The lines of a listing, kind by kind in their order: the keyword, how many numbers, and the limits of each number that
 -- has some. A line that breaks a limit is no line of its kind. Assumes nothing.
-use Rattle.std.specs.Prelude.{ℕ, ◌+◌, ◌*◌, List, get_or}
-use Rattle.text.specs.Line.{row_at, row_within}
-use Rattle.text.specs.declared.line.Row.{Row}
+use Rattle.std.specs.Prelude.{ℕ, ◌+◌, ◌*◌, List, Bool, get_or, cond, Option, Some, None}
+use Rattle.text.specs.Line.{Row, row_at, row_within}
 use Rattle.rules.specs.Numbers.{grant_entry}
 use Rattle.rules.specs.declared.Registers.{Registers}
 use Rattle.listing.specs.Words.{cells_word, size_word, cell_word, right_word, grant_word, byte_word, core_word, do_word}
-use Rattle.listing.specs.declared.entries.Entry.{Entry}
+use Rattle.listing.specs.declared.entries.Entry.{Entry as Found}
 
 -- number j of a line
 abbrev pub field : Row → (j : ℕ) → ℕ
@@ -46,6 +45,17 @@ do_row s at = row_at s at do_word 4
 
 -- ---- the three kinds that name an entry of a list: which entry, and its value. Strictly rising by cell then division (for a
 -- grant, the one that it is from) is strictly rising by entry, since an entry is cell × M + division and the division is below M.
+
+-- whether such a line stands there, the place after it, the entry that it names, and its value
+pub record Entry : Type 0 where
+  pub ok : Bool
+  pub next : ℕ
+  pub key : ℕ
+  pub value : ℕ
+
+-- the same as an answer: a line, or none
+abbrev pub option_of_entry : Entry → Option (Found ℕ)
+option_of_entry e = cond e.ok (Some (record { next = e.next; key = e.key; value = e.value })) None
 
 unfoldable pub right_at : (n m : ℕ) (s : List ℕ) (at : ℕ) → Entry
 right_at n m s at =

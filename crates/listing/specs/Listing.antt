@@ -4,10 +4,10 @@
 -- lowest, said of right listings (`First`), is proved in proofs/Lowest.antt. Assumes nothing.
 use Rattle.std.specs.Prelude.{ℕ, ◌+◌, ◌*◌, List, [], ◌∷◌, ◌++◌, Bool, cond, ◌&&◌, length, replicate, set, leb, eqb}
 use Rattle.text.specs.Star.{star}
-use Rattle.text.specs.declared.line.Row.{Row}
+use Rattle.text.specs.Line.{Row}
 use Rattle.rules.specs.Numbers.{Tables, State, state, tables}
 use Rattle.listing.specs.Lines.{field, head_row, size_row, cell_row, right_at, grant_at, byte_at, core_row, do_row, registers_in}
-use Rattle.listing.specs.declared.entries.Entry.{Entry}
+use Rattle.listing.specs.Lines.{Entry}
 
 -- entries not named are 0
 abbrev pub zeros : (n : ℕ) → List ℕ

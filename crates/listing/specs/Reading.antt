@@ -1,28 +1,20 @@
 -- What the readers and writers answer, in the words of the listing. Assumes nothing.
-use Rattle.std.specs.Prelude.{ℕ, ◌+◌, ◌*◌, ◌≤◌, ◌≡◌, List, [], cond, length, get_or, leb}
+use Rattle.std.specs.Prelude.{ℕ, ◌+◌, ◌≤◌, ◌≡◌, Bool, true, false, Option, Some, None, List, [], cond, length, get_or, leb}
 use Rattle.listing.specs.Words.{answer_word}
-use Rattle.listing.specs.Lines.{right_at, byte_at}
 use Rattle.listing.specs.Listing.{Entries}
 use Rattle.listing.specs.Output.{line3, output_of}
-use Rattle.listing.specs.declared.entries.Entry.{Entry}
-use Rattle.listing.specs.declared.entries.Kind.{Kind}
-use Rattle.listing.specs.declared.entries.Kind.TheVariants.{Right, Byte}
+use Rattle.listing.specs.Lines.{Entry}
+use Rattle.listing.specs.declared.entries.Entry.{Entry as Found}
 use Rattle.listing.specs.declared.lines.Passed.{Passed}
 
--- what a line of the kind names
-abbrev pub line_of : Kind → (s : List ℕ) (at : ℕ) → Entry
-line_of (Right n m) s at = right_at n m s at
-line_of (Byte l) s at = byte_at l s at
+-- what was read of a line at a place, where `number` tells what its value is: none, or what the line names
+abbrev pub Told : {T : Type 0} (number : T → ℕ) → Option (Found T) → Entry → Type 0
+Told number None e = e.ok ≡ false
+Told number (Some f) e = e ≡ record { ok = true; next = f.next; key = f.key; value = number f.value }
 
--- how long the list is that it fills
-abbrev pub size_of : Kind → ℕ
-size_of (Right n m) = n * m
-size_of (Byte l) = l
-
--- the bounds of document 01
-abbrev pub SmallKind : Kind → Type 0
-SmallKind (Right n m) = (n ≤ 256) × (m ≤ 32)
-SmallKind (Byte l) = l ≤ 65536
+-- the calls of a reader tell what stands at each place: `post` is what it ensures
+abbrev pub Reads : {T : Type 0} (post : ℕ → Option (Found T) → Type 0) (number : T → ℕ) (names : ℕ → Entry) → Type 0
+Reads {T} post number names = (at : ℕ) (r : Option (Found T)) → post at r → Told number r (names at)
 
 -- how many lines there were, the place after them, and the list with their values
 pub record FilledAs (t : Entries) (r : Passed) (after : List ℕ) : Type 0 where

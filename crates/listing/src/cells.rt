@@ -5,6 +5,7 @@ ghost use Rattle.listing.specs.Listing.{cells_at};
 use crate::lines::{Passed, cell_row};
 
 // The cell lines from a place on. The fronts of the lists are filled, an entry to a line.
+#[tactic(auto, using(crate::proofs::Loops::cells_stop, crate::proofs::Loops::cells_full, crate::proofs::Rows::mark_below, text::proofs::Lines::found_row))]
 pub fn cells_at(
     s: &[u8],
     at: usize,
@@ -24,20 +25,16 @@ pub fn cells_at(
         } }
     ensures few { result.count ≤ 256 }
 {
-    let mut i = at;
-    let mut n = 0;
-    while n < 256 {
-        let r = cell_row(s, i);
-        let v = r.v;
-        if !r.ok {
-            return Passed { count: n, next: i };
-        }
-        first[n] = v[0];
-        last[n] = v[1];
-        offset[n] = v[2];
-        marks[n] = v[3] as u8;
-        i = r.next;
-        n += 1;
+    let mut next = at;
+    for n in 0..256 {
+        let Some(row) = cell_row(s, next) else {
+            return Passed { count: n, next };
+        };
+        first[n] = row.v[0];
+        last[n] = row.v[1];
+        offset[n] = row.v[2];
+        marks[n] = row.v[3] as u8;
+        next = row.next;
     }
-    Passed { count: n, next: i }
+    Passed { count: 256, next }
 }

@@ -1,84 +1,84 @@
-// The right and byte lines of a listing: each names an entry of a list of bytes, in strictly rising order, and its value.
-ghost use Rattle.std.specs.Prelude.{◌≡◌, ◌≤◌, length};
-ghost use Rattle.listing.specs.Lines.{right_at, byte_at};
+// The right, grant and byte lines of a listing: each names an entry of a list, in strictly rising order, and its value.
+ghost use Rattle.std.specs.Prelude.{ℕ, ◌≡◌, ◌≤◌, ◌<◌, ◌^◌, ◌*◌, length, map, Option, Some};
+ghost use Rattle.listing.specs.Lines.{Entry as Line, right_at, grant_at, byte_at, option_of_entry};
 ghost use Rattle.listing.specs.Listing.{entries_at};
-ghost use Rattle.listing.specs.Reading.{line_of, size_of, SmallKind, FilledAs};
+ghost use Rattle.listing.specs.Reading.{Reads, FilledAs};
 
-use crate::lines::{Passed, byte_row, right_row};
+use crate::lines::{Passed, byte_row, grant_row, right_row};
 
-// The kinds whose values are bytes: of so many cells and divisions, or in a memory of so many bytes.
+// What a line names.
 #[derive(Clone, Copy)]
-pub enum Kind {
-    Right(u32, u32),
-    Byte(u32),
-}
-
-// What a line names. It is all 0 where no line of the kind stands.
-#[derive(Clone, Copy)]
-pub struct Entry {
-    pub ok: bool,
+pub struct Entry<T> {
     pub next: usize,
     pub key: usize,
-    pub value: u16,
+    pub value: T,
 }
 
-fn right_at(s: &[u8], at: usize, n: u32, m: u32) -> Entry
+// Of n cells and m divisions.
+#[tactic(auto, using(text::proofs::Lines::no_row, text::proofs::Lines::found_row, crate::proofs::Rows::rights_below), unfolding(crate::specs::Lines::right_at))]
+pub fn right_at(s: &[u8], at: usize, n: u32, m: u32) -> Option<Entry<u8>>
     requires { (n ≤ 256) × (m ≤ 32) }
-    ensures { result ≡ right_at n m s.now at }
+    ensures { result ≡ option_of_entry (right_at n m s.now at) }
 {
-    let r = right_row(s, at, n, m);
-    let v = r.v;
-    Entry {
-        ok: r.ok,
-        next: r.next,
-        key: v[0] as usize * m as usize + v[1] as usize,
-        value: v[2] as u16,
-    }
+    let row = right_row(s, at, n, m)?;
+    Some(Entry {
+        next: row.next,
+        key: row.v[0] as usize * m as usize + row.v[1] as usize,
+        value: row.v[2] as u8,
+    })
 }
 
-fn byte_at(s: &[u8], at: usize, l: u32) -> Entry
-    ensures { result ≡ byte_at l s.now at }
+#[tactic(auto, using(text::proofs::Lines::no_row, text::proofs::Lines::found_row, crate::proofs::Rows::grant_below, crate::proofs::Rows::target_most), unfolding(crate::specs::Lines::grant_at))]
+pub fn grant_at(s: &[u8], at: usize, n: u32, m: u32) -> Option<Entry<u16>>
+    requires { (n ≤ 256) × (m ≤ 32) }
+    ensures { result ≡ option_of_entry (grant_at n m s.now at) }
 {
-    let r = byte_row(s, at, l);
-    let v = r.v;
-    Entry {
-        ok: r.ok,
-        next: r.next,
-        key: v[0] as usize,
-        value: v[1] as u16,
-    }
+    let row = grant_row(s, at, n, m)?;
+    Some(Entry {
+        next: row.next,
+        key: row.v[0] as usize * m as usize + row.v[1] as usize,
+        value: (row.v[2] + 256 * row.v[3]) as u16,
+    })
 }
 
-fn entry_at(s: &[u8], at: usize, kind: Kind) -> Entry
-    requires { SmallKind kind }
-    ensures { result ≡ line_of kind s.now at }
+// In a memory of l bytes.
+#[tactic(auto, using(text::proofs::Lines::no_row, text::proofs::Lines::found_row, crate::proofs::Rows::byte_below), unfolding(crate::specs::Lines::byte_at))]
+pub fn byte_at(s: &[u8], at: usize, l: u32) -> Option<Entry<u8>>
+    ensures { result ≡ option_of_entry (byte_at l s.now at) }
 {
-    match kind {
-        Kind::Right(n, m) => right_at(s, at, n, m),
-        Kind::Byte(l) => byte_at(s, at, l),
-    }
+    let row = byte_row(s, at, l)?;
+    Some(Entry {
+        next: row.next,
+        key: row.v[0] as usize,
+        value: row.v[1] as u8,
+    })
 }
 
-// The lines of a kind from a place on, and their values in the list.
-pub fn fill_bytes(s: &[u8], at: usize, kind: Kind, list: &mut [u8]) -> Passed
-    requires { (SmallKind kind) × (size_of kind ≡ length list.old) }
-    ensures filled { FilledAs (entries_at (line_of kind s.now) (length s.now) at list.old) result list.new }
-    ensures few { result.count ≤ length s.now }
+// The lines from a place on that `line` reads, at most so many, as long as they rise; and their values in the list. `number`
+// tells what a value is in the words of the listing.
+pub fn fill<T: Copy, F: Fn(usize) -> Option<Entry<T>>>(
+    line: F,
+    most: usize,
+    at: usize,
+    list: &mut [T],
+) -> Passed
+    requires callable { F.IsAlwaysCallable line }
+    requires inside { (at : ℕ) (e : _) → F.post line at (Some e) → e.key < length list.old }
+    ensures filled { (number : T → ℕ) (names : ℕ → Line) → Reads (F.post line) number names
+        → FilledAs (entries_at names most at (map number list.old)) result (map number list.new) }
+    ensures few { result.count ≤ most }
 {
-    let mut i = at;
+    let mut next = at;
     let mut least = 0;
-    let mut n = 0;
-    while n < s.len() {
-        let e = entry_at(s, i, kind);
-        let key = e.key;
-        let rises = e.ok & (least <= key);
-        if !rises {
-            return Passed { count: n, next: i };
+    for count in 0..most {
+        match line(next) {
+            Some(entry) if least <= entry.key => {
+                list[entry.key] = entry.value;
+                least = entry.key + 1;
+                next = entry.next;
+            }
+            _ => return Passed { count, next },
         }
-        list[key] = e.value as u8;
-        least = key + 1;
-        i = e.next;
-        n += 1;
     }
-    Passed { count: n, next: i }
+    Passed { count: most, next }
 }

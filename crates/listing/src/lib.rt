@@ -4,7 +4,6 @@
 mod cells;
 mod dos;
 mod entries;
-mod grants;
 mod lines;
 mod put;
 mod run;

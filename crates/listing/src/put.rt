@@ -15,7 +15,7 @@ pub fn put_head(out: &mut [u8]) -> usize
     ensures puts { Puts out 0 (line1 cells_word 1) result }
     ensures ends { result ≤ 17 }
 {
-    put_row(out, 0, b"cells", [1, 0, 0, 0, 0], 1)
+    put_row(out, 0, b"cells", &[1])
 }
 
 // `bad` and the line.
@@ -24,7 +24,7 @@ pub fn put_bad(out: &mut [u8], at: usize, line: u32) -> usize
     ensures puts { Puts out at (line1 bad_word line) result }
     ensures ends { result ≤ at + 15 }
 {
-    put_row(out, at, b"bad", [line, 0, 0, 0, 0], 1)
+    put_row(out, at, b"bad", &[line])
 }
 
 // `answer`, position from 1, number and value, for the first `count` answers.
@@ -46,8 +46,7 @@ pub fn put_answers(
             out,
             i,
             b"answer",
-            [k as u32 + 1, numbers[k], values[k], 0, 0],
-            3,
+            &[k as u32 + 1, numbers[k], values[k]],
         );
         k += 1;
     }
@@ -60,7 +59,7 @@ pub fn put_core(out: &mut [u8], at: usize, r: Registers) -> usize
     ensures puts { Puts out at (core_line r) result }
     ensures ends { result ≤ at + 38 }
 {
-    put_row(out, at, b"core", [r.current, r.caller, r.place, 0, 0], 3)
+    put_row(out, at, b"core", &[r.current, r.caller, r.place])
 }
 
 fn wide(x: u8) -> u32
@@ -89,8 +88,7 @@ fn put_right(out: &mut [u8], at: usize, m: usize, rights: &[u8], e: usize) -> us
         out,
         at,
         b"right",
-        [(e / m) as u32, (e % m) as u32, h, 0, 0],
-        3,
+        &[(e / m) as u32, (e % m) as u32, h],
     )
 }
 
@@ -122,8 +120,7 @@ fn put_grant(out: &mut [u8], at: usize, m: usize, grants: &[u16], e: usize) -> u
         out,
         at,
         b"grant",
-        [(e / m) as u32, (e % m) as u32, g % 256, g / 256, 0],
-        4,
+        &[(e / m) as u32, (e % m) as u32, g % 256, g / 256],
     )
 }
 

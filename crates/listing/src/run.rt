@@ -10,8 +10,7 @@ ghost use Rattle.listing.specs.Reading.{Roomy, output_room, written_in};
 
 use crate::cells::cells_at;
 use crate::dos::dos_at;
-use crate::entries::{Kind, fill_bytes};
-use crate::grants::fill_grants;
+use crate::entries::{byte_at, fill, grant_at, right_at};
 use crate::lines::{core_row, head_row, size_row};
 use crate::put::{put_answers, put_bad, put_head, put_state};
 use monitor::execute_all;
@@ -116,11 +115,9 @@ fn run_core(
         (tables m first.now last.now offset.now marks.old rights.old grants.old memory.old) (core_row s.now next))) result }
     ensures ends { result ≤ output_room }
 {
-    let core = core_row(s, next);
-    let v = core.v;
-    if !core.ok {
+    let Some(core) = core_row(s, next) else {
         return put_bad(out, at, (line + 1) as u32);
-    }
+    };
     let mut list = room_for_instructions();
     let dos = dos_at(s, core.next, &mut list);
     let count = dos.count;
@@ -129,9 +126,9 @@ fn run_core(
     }
     let end = 4 * count;
     let registers = Registers {
-        current: v[0],
-        caller: v[1],
-        place: v[2],
+        current: core.v[0],
+        caller: core.v[1],
+        place: core.v[2],
     };
     let mut numbers = room_for_answers();
     let mut values = room_for_answers();
@@ -177,9 +174,10 @@ fn run_rights(
     ensures ends { result ≤ output_room }
 {
     let n = first.len();
-    let a = fill_bytes(s, next, Kind::Right(n as u32, m), rights);
-    let b = fill_grants(s, a.next, n as u32, m, grants);
-    let c = fill_bytes(s, b.next, Kind::Byte(l), memory);
+    let cells = n as u32;
+    let a = fill(|at| right_at(s, at, cells, m), s.len(), next, rights);
+    let b = fill(|at| grant_at(s, at, cells, m), s.len(), a.next, grants);
+    let c = fill(|at| byte_at(s, at, l), s.len(), b.next, memory);
     let line = 2 + n + a.count + b.count + c.count;
     run_core(
         s, c.next, line, m as usize, first, last, offset, marks, rights, grants, memory, out, at,
@@ -233,14 +231,11 @@ pub fn cellrun(s: &[u8], out: &mut [u8]) -> usize
     if 65536 < s.len() {
         return put_bad(out, at, 0);
     }
-    let head = head_row(s, 0);
-    if !head.ok {
+    let Some(head) = head_row(s, 0) else {
         return put_bad(out, at, 1);
-    }
-    let size = size_row(s, head.next);
-    let v = size.v;
-    if !size.ok {
+    };
+    let Some(size) = size_row(s, head.next) else {
         return put_bad(out, at, 2);
-    }
-    run_cells(s, size.next, v[0], v[1], out, at)
+    };
+    run_cells(s, size.next, size.v[0], size.v[1], out, at)
 }

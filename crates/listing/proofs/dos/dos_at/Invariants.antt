@@ -1,10 +1,5 @@
-use Prim.Native.Nat.{◌-◌}
-use lib.ListN.{length}
 use Rattle.listing.proofs.Loops.{DosRead}
 use Rattle.listing.proofs.dos.dos_at.Given as goal
 
 abbrev pub invariant-loop-n : goal.invariant-loop-n
-invariant-loop-n l = DosRead l.s l.at l.n l.i l.list
-
-abbrev pub decreases-loop-n : goal.decreases-loop-n
-decreases-loop-n l = length l.s - l.n
+invariant-loop-n l = DosRead l.s l.at l.n l.next l.list

@@ -4,7 +4,7 @@ use native.Mathlib.Omega.{arith}
 use native.Mathlib.Nat.{div-le_self, mod-lt}
 use Rattle.listing.specs.Words.{grant_word}
 use Rattle.text.proofs.Writing.{put_nothing}
-use Rattle.listing.proofs.Written.{row_put, grant_short, without_grant, some_grant}
+use Rattle.listing.proofs.Written.{put4, row_put, grant_short, without_grant, some_grant}
 use Rattle.listing.proofs.put.put_grant.Goals as goal
 use Rattle.listing.proofs.put.put_grant.Goals.{Start}
 
@@ -39,7 +39,7 @@ returns c =
     let a = c.args in
     let h = c.wide_entry-g.ensures in
     let room : a.at + 50 ≤ length a.out.now = c.requires.4 in
-    let p = row_put grant_word _ 4 (omega arith) room c.put_row.ensures.puts in
+    let p = put4 _ _ _ _ _ (row_put grant_word _ 4 (omega arith) room c.put_row.ensures.puts) in
     record {
       puts = rw (some_grant a.m a.grants.now a.e _ h.0 c.if-g-eq0.false) p;
       ends = grant_short _ _ _ _ (cell_small s) (division_small s) (omega (arith, h.1)) (omega (arith, h.1)) p;

@@ -3,7 +3,7 @@ use lib.ListN.{length}
 use native.Mathlib.Omega.{arith}
 use native.Mathlib.Nat.{div-le_self, mod-lt}
 use Rattle.listing.specs.Words.{right_word}
-use Rattle.listing.proofs.Written.{row_put, right_short, some_right}
+use Rattle.listing.proofs.Written.{put3, row_put, right_short, some_right}
 use Rattle.listing.proofs.put.put_right.Goals as goal
 use Rattle.listing.proofs.put.put_right.Goals.{Start}
 
@@ -30,7 +30,7 @@ returns c =
     let a = c.args in
     let h = c.wide-h.ensures in
     let room : a.at + 39 ≤ length a.out.now = c.requires.4 in
-    let p = row_put right_word _ 3 (omega arith) room c.put_row.ensures.puts in
+    let p = put3 _ _ _ _ (row_put right_word _ 3 (omega arith) room c.put_row.ensures.puts) in
     record {
       puts = rw (some_right a.m a.rights.now a.e _ h.0 (λ z. absurd (omega arith))) p;
       ends = right_short _ _ _ (cell_small s) (division_small s) (omega (arith, h.1)) p;

@@ -1,10 +1,10 @@
 use Prim.Native.Nat.{◌*◌, ◌≤◌}
-use mathlib.Core.Path.{sym, ap, ◌∙◌}
+use mathlib.Core.Path.{refl, sym}
 use native.Mathlib.Omega.{arith}
 use lib.ListN.{length, take}
 use lib.Seq.{length-take-le}
-use borrow.Author.Tests.{not-true, not-false}
-use Rattle.text.specs.declared.line.Row.{Row}
+use Rattle.text.specs.Line.{row_of}
+use Rattle.text.proofs.Lines.{found_row, no_row}
 use Rattle.listing.specs.Lines.{core_row}
 use Rattle.listing.specs.Listing.{Dos}
 use Rattle.listing.proofs.Whole.{core_wrong, dos_wrong, dos_right}
@@ -25,12 +25,12 @@ inside : (c : After-dos_at-dos) → 4 * c.dos_at-dos.result.count ≤ length c.d
 inside c =
     omega (arith, c.dos_at-dos.ensures.few, c.dos_at-dos.auto.list, c.room_for_instructions-list.ensures)
 
-pub returns-then-not-core : goal.returns-then-not-core
-returns-then-not-core c =
+pub returns-in_default : goal.returns-in_default
+returns-in_default c =
     let a = c.args in
-    let wrong = ap (λ (r : Row). r.ok) (sym c.core_row-core.ensures) ∙ not-true _ c.if-not-core.true in
+    let core = core_row a.s.now a.next in
     record {
-      puts = rw (← core_wrong a.s.now a.line _ (core_row a.s.now a.next) wrong) c.put_bad.ensures.puts;
+      puts = rw (← core_wrong a.s.now a.line _ core (no_row core c.in_default.ensures)) c.put_bad.ensures.puts;
       ends = omega (arith, c.put_bad.ensures.ends, c.requires.6.head);
     }
 
@@ -39,8 +39,8 @@ returns-then-dos-s c =
     let dos = (goal.at.returns-then-dos-s c).After-dos_at-dos in
     record {
       puts = rw (
-        ← c.core_row-core.ensures,
-        ← dos_wrong c.args.s.now c.args.line _ c.core_row-core.result (not-false _ c.if-not-core.false) (done dos)
+        found_row _ c.in-Some.ensures,
+        ← dos_wrong c.args.s.now c.args.line _ (row_of c.in-Some.core) refl (done dos)
             c.dos_at-dos.ensures.value c.if-dos-s.true,
       )
           c.put_bad-then-dos-s.ensures.puts;
@@ -66,8 +66,8 @@ returns c =
     let dos = (goal.at.returns c).After-dos_at-dos in
     record {
       puts = rw (
-        ← c.core_row-core.ensures,
-        ← dos_right c.args.s.now c.args.line _ c.core_row-core.result (not-false _ c.if-not-core.false) (done dos)
+        found_row _ c.in-Some.ensures,
+        ← dos_right c.args.s.now c.args.line _ (row_of c.in-Some.core) refl (done dos)
             c.dos_at-dos.ensures.value c.if-dos-s.false,
       )
           c.run_instructions.ensures.puts;

@@ -1,12 +1,15 @@
 use Rattle.listing.specs.Listing.{Cells}
+use Rattle.std.proofs.Common.{rules}
+use Rattle.listing.specs.Lines.{right_at, grant_at, byte_at}
 use Prim.Native.Nat.{ℕ, ◌+◌, ◌*◌, ◌≤◌}
 use mathlib.Core.Path.{◌≡◌, sym, ap, ◌∙◌}
 use native.Mathlib.Omega.{arith}
 use lib.ListN.{length, length-replicate}
-use Rattle.listing.proofs.Rows.{product_small}
+use Rattle.listing.proofs.Rows.{product_small, told, right_key, grant_key, byte_key}
+use Rattle.listing.proofs.Loops.{filled_plain}
 use Rattle.listing.proofs.Whole.{rights_read}
 use Rattle.listing.proofs.run.run_rights.Goals as goal
-use Rattle.listing.proofs.run.run_rights.Goals.{After-fill_bytes-c, Start}
+use Rattle.listing.proofs.run.run_rights.Goals.{After-fill-c, Start}
 
 -- as many entries as there are cells and divisions
 entries : (c : Start) → length c.args.first.now * c.args.m ≤ 8192
@@ -21,20 +24,20 @@ grants_long c = sym (ap (length {A = ℕ}) c.requires.zeros.1 ∙ length-replica
 bytes_long : (c : Start) → c.args.l ≡ length c.args.memory.now
 bytes_long c = sym (ap (length {A = ℕ}) c.requires.zeros.2 ∙ length-replicate _ 0)
 
-pub fill_bytes-a-requires : goal.fill_bytes-a-requires
-fill_bytes-a-requires c =
-    let a = (goal.at.fill_bytes-a-requires c).Start in
-    ((c.requires.sizes.3, c.requires.sizes.1), rights_long a)
+pub fill-a-requires-clause-inside : goal.fill-a-requires-clause-inside
+fill-a-requires-clause-inside c = λ at e post.
+    let a = (goal.at.fill-a-requires-clause-inside c).Start in
+    omega (arith, rights_long a, right_key (length c.args.first.now) c.args.m c.args.s.now at {e = e} (search rules))
 
-pub fill_grants-b-requires : goal.fill_grants-b-requires
-fill_grants-b-requires c =
-    let a = (goal.at.fill_grants-b-requires c).Start in
-    (c.requires.sizes.3, c.requires.sizes.0, c.requires.sizes.1, grants_long a)
+pub fill-b-requires-clause-inside : goal.fill-b-requires-clause-inside
+fill-b-requires-clause-inside c = λ at e post.
+    let a = (goal.at.fill-b-requires-clause-inside c).Start in
+    omega (arith, grants_long a, grant_key (length c.args.first.now) c.args.m c.args.s.now at {e = e} (search rules))
 
-pub fill_bytes-c-requires : goal.fill_bytes-c-requires
-fill_bytes-c-requires c =
-    let a = (goal.at.fill_bytes-c-requires c).Start in
-    (c.requires.sizes.2, bytes_long a)
+pub fill-c-requires-clause-inside : goal.fill-c-requires-clause-inside
+fill-c-requires-clause-inside c = λ at e post.
+    let a = (goal.at.fill-c-requires-clause-inside c).Start in
+    omega (arith, bytes_long a, byte_key c.args.l c.args.s.now at {e = e} (search rules))
 
 pub overflow_add-line : goal.overflow_add-line
 overflow_add-line c =
@@ -42,34 +45,34 @@ overflow_add-line c =
 
 pub overflow_add-line-2 : goal.overflow_add-line-2
 overflow_add-line-2 c =
-    omega (arith, c.requires.sizes.3, c.requires.sizes.4, c.fill_bytes-a.ensures.few)
+    omega (arith, c.requires.sizes.3, c.requires.sizes.4, c.fill-a.ensures.few)
 
 pub overflow_add-line-3 : goal.overflow_add-line-3
 overflow_add-line-3 c =
-    omega (arith, c.requires.sizes.3, c.requires.sizes.4, c.fill_bytes-a.ensures.few, c.fill_grants-b.ensures.few)
+    omega (arith, c.requires.sizes.3, c.requires.sizes.4, c.fill-a.ensures.few, c.fill-b.ensures.few)
 
 -- so many lines stand before the core at most
-few_lines : (b : After-fill_bytes-c)
-    → 2 + length b.args.first.now + b.fill_bytes-a.result.count
-    + b.fill_grants-b.result.count + b.fill_bytes-c.result.count
+few_lines : (b : After-fill-c)
+    → 2 + length b.args.first.now + b.fill-a.result.count
+    + b.fill-b.result.count + b.fill-c.result.count
     ≤ 262144
 few_lines b =
     omega
-    (arith, b.requires.sizes.3, b.requires.sizes.4, b.fill_bytes-a.ensures.few, b.fill_grants-b.ensures.few, b.fill_bytes-c.ensures.few)
+    (arith, b.requires.sizes.3, b.requires.sizes.4, b.fill-a.ensures.few, b.fill-b.ensures.few, b.fill-c.ensures.few)
 
 pub overflow_add-line-4 : goal.overflow_add-line-4
 overflow_add-line-4 c =
-    let b = (goal.at.overflow_add-line-4 c).After-fill_bytes-c in
+    let b = (goal.at.overflow_add-line-4 c).After-fill-c in
     omega (arith, few_lines b)
 
 pub run_core-requires : goal.run_core-requires
 run_core-requires c =
-    let b = (goal.at.run_core-requires c).After-fill_bytes-c in
+    let b = (goal.at.run_core-requires c).After-fill-c in
     let a = (goal.at.run_core-requires c).Start in (
       c.requires.sizes.0,
       c.requires.sizes.1,
-      omega (arith, entries a, rights_long a, c.fill_bytes-a.auto.list),
-      omega (arith, entries a, grants_long a, c.fill_grants-b.auto.list),
+      omega (arith, entries a, rights_long a, c.fill-a.auto.list),
+      omega (arith, entries a, grants_long a, c.fill-b.auto.list),
       c.requires.sizes.4,
       few_lines b,
       c.requires.sizes.5,
@@ -77,19 +80,24 @@ run_core-requires c =
 
 pub shape_of-rights : goal.shape_of-rights
 shape_of-rights c =
-    c.run_core.auto.rights ∙ c.fill_bytes-a.auto.list
+    c.run_core.auto.rights ∙ c.fill-a.auto.list
 
 pub returns : goal.returns
 returns c =
-    let b = c.fill_bytes-c in
-    let g = c.fill_grants-b in
-    let r = c.fill_bytes-a in
     let a = c.args in
+    let n = length a.first.now in
+    let s = a.s.now in
+    let rights =
+    filled_plain _ _ _ _ _ _ (c.fill-a.ensures.filled (λ x. x) (right_at n a.m s) (λ at r post. told (right_at n a.m s at) r (search rules))) in
+    let grants =
+    filled_plain _ _ _ _ _ _ (c.fill-b.ensures.filled (λ x. x) (grant_at n a.m s) (λ at r post. told (grant_at n a.m s at) r (search rules))) in
+    let bytes =
+    filled_plain _ _ _ _ _ _ (c.fill-c.ensures.filled (λ x. x) (byte_at a.l s) (λ at r post. told (byte_at a.l s at) r (search rules))) in
     let cells : Cells = record { next = a.next; first = a.first.now; last = a.last.now; offset = a.offset.now; marks = a.marks.now } in
     let same =
-    rights_read a.s.now a.m a.l cells r.result g.result b.result a.rights.now r.new.list
-    a.grants.now g.new.list a.memory.now b.new.list c.requires.zeros.0 c.requires.zeros.1
-    c.requires.zeros.2 r.ensures.filled g.ensures.filled b.ensures.filled in
+    rights_read s a.m a.l cells c.fill-a.result c.fill-b.result c.fill-c.result a.rights.now c.fill-a.new.list
+    a.grants.now c.fill-b.new.list a.memory.now c.fill-c.new.list c.requires.zeros.0 c.requires.zeros.1
+    c.requires.zeros.2 rights grants bytes in
     record {
       puts = rw (← same) c.run_core.ensures.puts;
       ends = c.run_core.ensures.ends;
