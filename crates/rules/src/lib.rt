@@ -171,6 +171,7 @@ pub const WRITE: u8 = 2;
 pub const EXECUTE: u8 = 4;
 
 // Whether every right of `a` is in `b`.
+#[tactic(auto, unfolding(crate::specs::Numbers::part_of))]
 pub fn part_of(a: u8, b: u8) -> bool
     ensures { result ≡ part_of a b }
 {
@@ -240,6 +241,7 @@ pub struct Placed {
 }
 
 // Whether both operands are unused.
+#[tactic(auto, unfolding(crate::specs::Instructions::no_operands))]
 fn no_operands(y: u32, z: u32) -> bool
     ensures { result ≡ no_operands y z }
 {
@@ -258,6 +260,7 @@ fn byte_operand(y: u32, z: u32) -> bool
 }
 
 // Whether `y` is one of `m` divisions, and `z` unused.
+#[tactic(auto, unfolding(crate::specs::Instructions::division_operand))]
 fn division_operand(m: u32, y: u32, z: u32) -> bool
     ensures { result ≡ division_operand m y z }
 {
@@ -287,6 +290,7 @@ fn grant_operands(m: u32, d: u32, y: u32, z: u32) -> bool
 }
 
 // Whether `y` is one of `m` divisions but `d`, and `z` unused.
+#[tactic(auto, unfolding(crate::specs::Instructions::source_operand))]
 fn source_operand(m: u32, d: u32, y: u32, z: u32) -> bool
     ensures { result ≡ source_operand m d y z }
 {
@@ -316,6 +320,7 @@ fn keep(at: usize, in_range: bool, instruction: Instruction) -> Result<Placed, R
 
 // The instruction that four numbers stand for where `d` of `m` divisions is current, kept beside its listing position
 // `at`; refusal 4 for another number, 5 for an operand outside its range.
+#[tactic(auto, unfolding(crate::specs::Instructions::formed))]
 pub fn decode(
     m: u32,
     d: u32,

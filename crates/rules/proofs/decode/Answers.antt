@@ -4,27 +4,12 @@ use Rattle.rules.proofs.Operands.{byte_small, rights_small, grant_small, cut_kep
 use native.Mathlib.Omega.{arith}
 use Rattle.rules.proofs.decode.Goals as goal
 
-pub returns-in-0 : goal.returns-in-0
-unfolding formed
-returns-in-0 c =
-    rw (c.in-0.is, c.keep.ensures, c.no_operands.ensures)
-
 pub returns-in-1 : goal.returns-in-1
 unfolding formed
 returns-in-1 c =
     let a = c.args in
     rw (c.in-1.is, c.keep-in-1.ensures, c.low_byte.ensures, c.byte_operand.ensures)
     (cut_kept a.at (byte_operand a.y a.z) (λ v. Store a.x v) a.y (λ e. omega (arith, byte_small a.y a.z e)))
-
-pub returns-in-2 : goal.returns-in-2
-unfolding formed
-returns-in-2 c =
-    rw (c.in-2.is, c.keep-in-2.ensures, c.no_operands-in-2.ensures)
-
-pub returns-in-3 : goal.returns-in-3
-unfolding formed
-returns-in-3 c =
-    rw (c.in-3.is, c.keep-in-3.ensures, c.division_operand.ensures)
 
 pub returns-in-4 : goal.returns-in-4
 unfolding formed
@@ -40,32 +25,12 @@ returns-in-5 c =
     rw (c.in-5.is, c.keep-in-5.ensures, c.low_byte-in-5.ensures, c.grant_operands.ensures)
     (cut_kept a.at (grant_operands a.m a.d a.y a.z) (λ v. Grant a.x a.y v) a.z (λ e. omega (arith, grant_small a.m a.d a.y a.z e)))
 
-pub returns-in-6 : goal.returns-in-6
-unfolding formed
-returns-in-6 c =
-    rw (c.in-6.is, c.keep-in-6.ensures, c.source_operand.ensures)
-
 pub returns-in-7 : goal.returns-in-7
 unfolding formed
 returns-in-7 c =
     let a = c.args in
     rw (c.in-7.is, c.keep-in-7.ensures, c.low_byte-in-7.ensures, c.grant_operands-in-7.ensures)
     (cut_kept a.at (grant_operands a.m a.d a.y a.z) (λ v. Transfer a.x a.y v) a.z (λ e. omega (arith, grant_small a.m a.d a.y a.z e)))
-
-pub returns-in-8 : goal.returns-in-8
-unfolding formed
-returns-in-8 c =
-    rw (c.in-8.is, c.keep-in-8.ensures, c.no_operands-in-8.ensures)
-
-pub returns-in-9 : goal.returns-in-9
-unfolding formed
-returns-in-9 c =
-    rw (c.in-9.is, c.keep-in-9.ensures, c.no_operands-in-9.ensures)
-
-pub returns-in-10 : goal.returns-in-10
-unfolding formed
-returns-in-10 c =
-    rw (c.in-10.is, c.keep-in-10.ensures, c.no_operands-in-10.ensures)
 
 pub returns-in_default : goal.returns-in_default
 unfolding formed
