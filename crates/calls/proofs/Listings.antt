@@ -9,8 +9,7 @@ use mathlib.Core.List.{List, ◌++◌}
 use mathlib.Core.Bool.{true}
 use native.Mathlib.Omega.{arith}
 use lib.ListN.{length, get_or, take}
-use Rattle.text.specs.Line.{row_at}
-use Rattle.text.specs.Line.{Row}
+use Rattle.text.specs.Line.{row_at, Row}
 use Rattle.rules.specs.Numbers.{Tables, State}
 use Rattle.rules.specs.Lent.{Slice, MutSlice}
 use Rattle.rules.specs.Refusals.{Outcome}

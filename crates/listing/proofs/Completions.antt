@@ -8,19 +8,17 @@ use native.Mathlib.Omega.{arith}
 use lib.ListN.{length, drop, length-drop}
 use lib.Seq.{drop-drop, drop-append_seam, get_or-drop}
 use Rattle.text.specs.Number.{peek_at}
-use Rattle.text.specs.Line.{row_at}
+use Rattle.text.specs.Line.{row_at, Row}
 use Rattle.text.specs.Text.{row_text}
-use Rattle.text.specs.Line.{Row}
 use Rattle.text.proofs.Lines.{within_limits}
 use Rattle.text.proofs.Round.{Small, row_back}
 use Rattle.text.proofs.Stars.{star_none}
 use Rattle.rules.specs.declared.Registers.{Registers}
 use Rattle.listing.specs.Words.{cells_word, size_word}
-use Rattle.listing.specs.Lines.{field, head_row, size_row, cell_row, right_at, grant_at, byte_at, core_row, do_row}
+use Rattle.listing.specs.Lines.{field, head_row, size_row, cell_row, right_at, grant_at, byte_at, core_row, do_row, Entry}
 use Rattle.listing.specs.Listing.{zeros, Cells, with_cell, cells_at, Entries, rises, with_next, entries_at, Dos, with_do, dos_at}
 use Rattle.listing.specs.Output.{core_line}
 use Rattle.listing.specs.First.{IsListing}
-use Rattle.listing.specs.Lines.{Entry}
 use Rattle.listing.proofs.LinesBack.{core_back}
 use Rattle.listing.proofs.LineKinds.{cell_kind, right_kind, grant_kind, byte_kind, core_kind, do_kind, second_differs, none_at_end, moves_on}
 use Rattle.listing.proofs.Stages.{Before, text_right}

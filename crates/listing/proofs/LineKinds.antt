@@ -8,14 +8,12 @@ use lib.ListN.{length, drop}
 use lib.Dec.{leb, eqb}
 use borrow.Author.Tests.{eqb-true}
 use Rattle.text.specs.Number.{peek_at}
-use Rattle.text.specs.Line.{word_at, row_at, row_within}
-use Rattle.text.specs.Line.{Row}
+use Rattle.text.specs.Line.{word_at, row_at, row_within, Row}
 use Rattle.text.proofs.Cases.{by_test, and_left, and_right}
 use Rattle.text.proofs.Advance.{row_advance}
 use Rattle.text.proofs.OneLine.{Linewise, no_feed, row_same, row_end}
 use Rattle.listing.specs.Words.{cells_word, size_word, cell_word, right_word, grant_word, byte_word, core_word, do_word}
-use Rattle.listing.specs.Lines.{head_row, size_row, cell_row, right_row, grant_row, byte_row, core_row, do_row, right_at, grant_at, byte_at}
-use Rattle.listing.specs.Lines.{Entry}
+use Rattle.listing.specs.Lines.{head_row, size_row, cell_row, right_row, grant_row, byte_row, core_row, do_row, right_at, grant_at, byte_at, Entry}
 use Rattle.listing.proofs.Rows.{within_ok}
 
 -- where `ok` is told, the row is right and `next` is the place after it

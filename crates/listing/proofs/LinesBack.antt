@@ -1,7 +1,7 @@
 -- Where one line stands as it was written, of a right, of a grant or of the core, the reader of that line reads what it says;
 -- and with which byte a line starts. Assumes nothing.
 use Prim.Native.Nat.{ℕ, zero, suc, ◌+◌, ◌*◌, ◌/◌, ◌%◌, ◌≤◌, ◌<◌}
-use mathlib.Core.Path.{◌≡◌, refl, sym, ap, ◌∙◌}
+use mathlib.Core.Path.{◌≡◌, sym, ap, ◌∙◌}
 use mathlib.Core.List.{List, [], ◌∷◌, ◌++◌}
 use mathlib.Core.Bool.{true, ◌&&◌, true≢false}
 use native.Mathlib.Omega.{arith}
@@ -10,9 +10,8 @@ use lib.ListN.{length, drop, length-append}
 use lib.Dec.{leb, eqb}
 use borrow.Author.Tests.{eqb-true}
 use Rattle.text.specs.Number.{peek_at}
-use Rattle.text.specs.Line.{word_at, row_at, row_within}
+use Rattle.text.specs.Line.{word_at, row_at, row_within, Row}
 use Rattle.text.specs.Text.{row_text, fields_text}
-use Rattle.text.specs.Line.{Row}
 use Rattle.text.proofs.Cases.{by_test, and_left, and_right}
 use Rattle.text.proofs.Digits.{peek_drop}
 use Rattle.text.proofs.Lines.{within_limits}

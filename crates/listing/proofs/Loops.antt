@@ -1,10 +1,9 @@
 -- Laws of the loops that read lines of one kind: what holds after so many lines. Assumes nothing.
 use Prim.Native.Nat.{ℕ, ◌+◌, ◌-◌, ◌*◌, ◌≤◌, ◌<◌}
 use mathlib.Core.Path.{◌≡◌, refl, sym, ap, ◌∙◌}
-use mathlib.Core.List.{List, [], ◌∷◌, ◌++◌, map, append_assoc}
+use mathlib.Core.List.{List, [], ◌∷◌, ◌++◌, map}
 use mathlib.Core.Bool.{true, false, ◌&&◌}
 use native.Mathlib.Omega.{arith}
-use native.Mathlib.Nat.{sub-zero}
 use native.Mathlib.Numerals.{add-one}
 use lib.ListN.{length, get_or, set, take, drop, length-set, length-drop}
 use lib.Seq.{take-suc-set, length-take-le}
@@ -16,12 +15,11 @@ use Rattle.text.specs.Line.{Row, option_of_row, row_of}
 use Rattle.text.specs.declared.line.Row.{Row as Found}
 use Rattle.text.proofs.Lines.{found_row, no_row}
 use Rattle.text.proofs.Stars.{star_stop, star_more, star_full}
-use Rattle.listing.specs.Lines.{field, cell_row, do_row}
+use Rattle.listing.specs.Lines.{field, cell_row, do_row, Entry}
 use Rattle.listing.specs.Listing.{Cells, with_cell, more_cells, cells_at, Entries, with_entry, rises, with_next, more_entries, entries_at, Dos, with_do, more_dos, dos_at}
 use Rattle.listing.specs.Reading.{FilledAs}
 use Rattle.listing.specs.declared.lines.Passed.{Passed}
 use Rattle.std.proofs.lemmas.List.{map-id}
-use Rattle.listing.specs.Lines.{Entry}
 use Rattle.listing.proofs.Rows.{do_advance}
 
 -- one entry more at the front
@@ -90,24 +88,22 @@ pub record EntriesRead (line : ℕ → Entry) (k at : ℕ) (list₀ : List ℕ) 
   pub long : length list ≡ length list₀
   pub same : more_entries line (k - n) (record { count = n; next = i; least = least; list = list }) ≡ entries_at line k at list₀
 
-pub entries_none : (line : ℕ → Entry) (k at : ℕ) (list : List ℕ) → EntriesRead line k at list 0 at 0 list
-entries_none line k at list = record { few = omega arith; long = refl; same = rw sub-zero }
-
 module _ {line : ℕ → Entry} {k at : ℕ} {list₀ : List ℕ} {n i least : ℕ} {list : List ℕ} (h : EntriesRead line k at list₀ n i least list) where
   abbrev filled_now : Entries
   filled_now = record { count = n; next = i; least = least; list = list }
 
-  pub entries_more : n < k → (e : Entry) → line i ≡ e → (e.ok && leb least e.key) ≡ true
-      → EntriesRead line k at list₀ (n + 1) e.next (e.key + 1) (set list e.key e.value)
-  entries_more f e q ok =
-      record {
+  pub entries_more : n < k → (e : Entry) → line i ≡ e → (e.ok && leb least e.key) ≡ true → {m : ℕ} → m ≡ e.key + 1
+      → EntriesRead line k at list₀ (n + 1) e.next m (set list e.key e.value)
+  entries_more f e q ok r =
+      rw r
+      (record {
         few = omega arith;
         long = length-set list e.key e.value ∙ h.long;
         same =
             ap (λ (e : Entry). more_entries line (k - (n + 1)) (with_entry filled_now e)) (sym q)
             ∙ sym (star_more (rises line) (with_next line) filled_now k n f (ap (λ (e : Entry). e.ok && leb least e.key) q ∙ ok))
             ∙ h.same;
-      }
+      })
 
   filled_as : filled_now ≡ entries_at line k at list₀ → FilledAs (entries_at line k at list₀) (record { count = n; next = i }) list
   filled_as q =
@@ -145,9 +141,6 @@ pub record DosRead (s : List ℕ) (at n i : ℕ) (list : List ℕ) : Type 0 wher
   pub ends : 11 * n ≤ i
   pub long : length list ≡ 23828
   pub same : more_dos s (length s - n) (listed n i list) ≡ dos_at s at
-
-pub dos_none : (s : List ℕ) (at : ℕ) (list : List ℕ) → length list ≡ 23828 → DosRead s at 0 at list
-dos_none s at list e = record { few = omega arith; short = omega arith; ends = omega arith; long = e; same = rw sub-zero }
 
 -- four numbers more at the front
 four_front : (v : List ℕ) → length (take 4 v) ≡ 4 → take 4 v ≡ get_or v 0 0 ∷ get_or v 1 0 ∷ get_or v 2 0 ∷ get_or v 3 0 ∷ []

@@ -12,9 +12,8 @@ use Rattle.text.proofs.Cases.{and_left}
 use Rattle.text.proofs.OneLine.{Linewise}
 use Rattle.text.proofs.Stars.{star_keeps, star_enough}
 use Rattle.text.proofs.Walks.{star_walks, star_same}
-use Rattle.listing.specs.Lines.{field, cell_row, do_row}
+use Rattle.listing.specs.Lines.{field, cell_row, do_row, Entry}
 use Rattle.listing.specs.Listing.{Cells, with_cell, cells_at, Entries, with_entry, rises, with_next, more_entries, entries_at, Dos, with_do, more_dos, dos_at}
-use Rattle.listing.specs.Lines.{Entry}
 use Rattle.listing.proofs.LineKinds.{EntriesOf, cell_kind, do_kind, moves_on, line_same, line_walks}
 
 -- ---- one text: as many turns as it has bytes are enough

@@ -18,9 +18,8 @@ use Rattle.rules.specs.Numbers.{Tables, State, tables, in_bounds, right_lengths}
 use Rattle.rules.specs.Refusals.{well_sized}
 use Rattle.rules.proofs.Sizes.{after_put}
 use Rattle.rules.proofs.Small.{Small}
-use Rattle.listing.specs.Lines.{field, head_row, size_row, cell_row, right_at, grant_at, byte_at, core_row, do_row}
+use Rattle.listing.specs.Lines.{field, head_row, size_row, cell_row, right_at, grant_at, byte_at, core_row, do_row, Entry}
 use Rattle.listing.specs.Listing.{Text, run, wrong, zeros, Cells, with_cell, more_cells, cells_at, Entries, rises, with_next, entries_at, Dos, with_do, more_dos, dos_at, from_dos, from_core, from_rights, from_size, from_head, listing_in}
-use Rattle.listing.specs.Lines.{Entry}
 use Rattle.listing.proofs.Rows.{size_divisions, size_bytes, rights_below, byte_below}
 
 -- ---- cell lines

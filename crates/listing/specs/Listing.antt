@@ -6,8 +6,7 @@ use Rattle.std.specs.Prelude.{ℕ, ◌+◌, ◌*◌, List, [], ◌∷◌, ◌++�
 use Rattle.text.specs.Star.{star}
 use Rattle.text.specs.Line.{Row}
 use Rattle.rules.specs.Numbers.{Tables, State, state, tables}
-use Rattle.listing.specs.Lines.{field, head_row, size_row, cell_row, right_at, grant_at, byte_at, core_row, do_row, registers_in}
-use Rattle.listing.specs.Lines.{Entry}
+use Rattle.listing.specs.Lines.{field, head_row, size_row, cell_row, right_at, grant_at, byte_at, core_row, do_row, registers_in, Entry}
 
 -- entries not named are 0
 abbrev pub zeros : (n : ℕ) → List ℕ

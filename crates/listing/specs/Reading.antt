@@ -1,5 +1,5 @@
 -- What the readers and writers answer, in the words of the listing. Assumes nothing.
-use Rattle.std.specs.Prelude.{ℕ, ◌+◌, ◌≤◌, ◌≡◌, Bool, true, false, Option, Some, None, List, [], cond, length, get_or, leb}
+use Rattle.std.specs.Prelude.{ℕ, ◌+◌, ◌≤◌, ◌≡◌, true, false, Option, Some, None, List, [], cond, length, get_or, leb}
 use Rattle.listing.specs.Words.{answer_word}
 use Rattle.listing.specs.Listing.{Entries}
 use Rattle.listing.specs.Output.{line3, output_of}

@@ -23,7 +23,9 @@ pub fn head_row(s: &[u8], at: usize) -> Option<Row>
 pub fn size_row(s: &[u8], at: usize) -> Option<Row>
     ensures { result ≡ option_of_row (size_row s.now at) }
 {
-    row_at(s, at, b"size", 2)?.within(0, 1, 33)?.within(1, 0, 65537)
+    row_at(s, at, b"size", 2)?
+        .within(0, 1, 33)?
+        .within(1, 0, 65537)
 }
 
 #[tactic(auto, using(text::proofs::Lines::within_no_row, text::proofs::Lines::found_row), unfolding(crate::specs::Lines::cell_row))]
@@ -38,14 +40,21 @@ pub fn cell_row(s: &[u8], at: usize) -> Option<Row>
 pub fn right_row(s: &[u8], at: usize, n: u32, m: u32) -> Option<Row>
     ensures { result ≡ option_of_row (right_row n m s.now at) }
 {
-    row_at(s, at, b"right", 3)?.within(0, 0, n)?.within(1, 0, m)?.within(2, 1, 8)
+    row_at(s, at, b"right", 3)?
+        .within(0, 0, n)?
+        .within(1, 0, m)?
+        .within(2, 1, 8)
 }
 
 #[tactic(auto, using(text::proofs::Lines::within_no_row, text::proofs::Lines::found_row), unfolding(crate::specs::Lines::grant_row))]
 pub fn grant_row(s: &[u8], at: usize, n: u32, m: u32) -> Option<Row>
     ensures { result ≡ option_of_row (grant_row n m s.now at) }
 {
-    row_at(s, at, b"grant", 4)?.within(0, 0, n)?.within(1, 0, m)?.within(2, 0, m)?.within(3, 1, 8)
+    row_at(s, at, b"grant", 4)?
+        .within(0, 0, n)?
+        .within(1, 0, m)?
+        .within(2, 0, m)?
+        .within(3, 1, 8)
 }
 
 // In a memory of l bytes.
@@ -53,7 +62,9 @@ pub fn grant_row(s: &[u8], at: usize, n: u32, m: u32) -> Option<Row>
 pub fn byte_row(s: &[u8], at: usize, l: u32) -> Option<Row>
     ensures { result ≡ option_of_row (byte_row l s.now at) }
 {
-    row_at(s, at, b"byte", 2)?.within(0, 0, l)?.within(1, 1, 256)
+    row_at(s, at, b"byte", 2)?
+        .within(0, 0, l)?
+        .within(1, 1, 256)
 }
 
 #[tactic(auto, unfolding(crate::specs::Lines::core_row))]

@@ -42,12 +42,7 @@ pub fn put_answers(
     let mut i = at;
     let mut k = 0;
     while k < count {
-        i = put_row(
-            out,
-            i,
-            b"answer",
-            &[k as u32 + 1, numbers[k], values[k]],
-        );
+        i = put_row(out, i, b"answer", &[k as u32 + 1, numbers[k], values[k]]);
         k += 1;
     }
     i
@@ -84,12 +79,7 @@ fn put_right(out: &mut [u8], at: usize, m: usize, rights: &[u8], e: usize) -> us
     if h == 0 {
         return at;
     }
-    put_row(
-        out,
-        at,
-        b"right",
-        &[(e / m) as u32, (e % m) as u32, h],
-    )
+    put_row(out, at, b"right", &[(e / m) as u32, (e % m) as u32, h])
 }
 
 // The `right` lines of the entries that are not 0.

@@ -8,9 +8,8 @@ use native.Mathlib.Omega.{arith}
 use lib.ListN.{length, drop, set, length-drop}
 use lib.Dec.{ltb, leb, eqb}
 use borrow.Author.Tests.{ltb-true, eqb-true}
-use Rattle.text.specs.Number.{peek_at, is_digit, digits_in, value_from, no_leading_zero, starts_number, number_at}
+use Rattle.text.specs.Number.{peek_at, is_digit, digits_in, value_from, no_leading_zero, starts_number, number_at, Number, Bad}
 use Rattle.text.specs.Line.{tab, line_feed, zeros5, word_at, fields_at, row_at}
-use Rattle.text.specs.Number.{Number, Bad}
 use Rattle.text.proofs.Cases.{by_test, by_field, and_left}
 use Rattle.text.proofs.Digits.{peek_inside}
 

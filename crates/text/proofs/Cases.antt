@@ -4,8 +4,7 @@ use mathlib.Core.Path.{◌≡◌, refl, sym}
 use mathlib.Core.Bool.{Bool, true, false, ◌&&◌, true≢false}
 use lib.Dec.{ltb}
 use borrow.Author.Tests.{ltb-true, ltb-false}
-use Rattle.text.specs.Number.{Field}
-use Rattle.text.specs.Number.{Number, Bad}
+use Rattle.text.specs.Number.{Field, Number, Bad}
 
 -- what a test answers, with the equation
 pub by_test {ℓ} : {X : Type ℓ} (b : Bool) → (b ≡ true → X) → (b ≡ false → X) → X

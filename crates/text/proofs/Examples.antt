@@ -3,11 +3,10 @@ use Prim.Native.Nat.{ℕ}
 use mathlib.Core.Path.{◌≡◌, refl}
 use mathlib.Core.List.{List, [], ◌∷◌}
 use mathlib.Core.Bool.{true}
-use Rattle.text.specs.Number.{number_at}
+use Rattle.text.specs.Number.{number_at, Number, Bad}
 use Rattle.text.specs.Line.{row_at, bad_row}
 use Rattle.text.specs.FirstLines.{first_lines, line_count}
 use Rattle.text.specs.Text.{decimal, row_text}
-use Rattle.text.specs.Number.{Number, Bad}
 
 -- `0` is a number, and so is `4294967295` behind a tab
 zero_read : number_at (48 ∷ []) 0 ≡ Number 0 1

@@ -5,8 +5,7 @@ use mathlib.Core.List.{List}
 use native.Mathlib.Omega.{arith}
 use lib.ListN.{drop}
 use borrow.Author.Tests.{lt-ltb, le-ltb, le-leb, lt-leb, eq-eqb, ne_eqb}
-use Rattle.text.specs.Number.{peek_at, digits_in, value_from, number_at}
-use Rattle.text.specs.Number.{Number, Bad}
+use Rattle.text.specs.Number.{peek_at, digits_in, value_from, number_at, Number, Bad}
 use Rattle.text.proofs.Digits.{peek_drop}
 
 -- ---- by what `run_at` found: the value v, kept at 4,294,967,296, and the place n after the digits

@@ -9,9 +9,8 @@ use lib.ListN.{length, drop, set}
 use lib.Seq.{drop-drop}
 use lib.Dec.{leb, eqb}
 use borrow.Author.Tests.{leb-true, eqb-true, eq-eqb}
-use Rattle.text.specs.Number.{peek_at, is_digit, digits_in, value_from, starts_number, number_at}
+use Rattle.text.specs.Number.{peek_at, is_digit, digits_in, value_from, starts_number, number_at, Number, Bad}
 use Rattle.text.specs.Line.{tab, line_feed, zeros5, word_at, fields_at, row_at}
-use Rattle.text.specs.Number.{Number, Bad}
 use Rattle.text.proofs.Cases.{by_test, by_field, and_left, and_right}
 use Rattle.text.proofs.Digits.{peek_drop, run_stops}
 

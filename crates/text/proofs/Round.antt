@@ -9,10 +9,9 @@ use native.Mathlib.Numerals.{add-one}
 use lib.ListN.{length, get_or, drop, take, set, length-append, length-set, take-append-drop}
 use lib.Seq.{drop-drop, drop-append_seam, drop-cons, take-suc-set, drop-set-lt, append_snoc}
 use borrow.Author.Tests.{lt-ltb, le-ltb, eq-eqb, ne_eqb, le-leb}
-use Rattle.text.specs.Number.{peek_at, is_digit, digits_in, value_from, number_at}
+use Rattle.text.specs.Number.{peek_at, is_digit, digits_in, value_from, number_at, Number}
 use Rattle.text.specs.Line.{tab, line_feed, word_at, fields_at, row_at, zeros5}
 use Rattle.text.specs.Text.{Put, decimal_in, decimal, fields_text, row_text, row_in}
-use Rattle.text.specs.Number.{Number}
 use Rattle.text.proofs.Cases.{below_or_not}
 use Rattle.text.proofs.Digits.{digit_between, run_stops, peek_drop}
 use Rattle.text.proofs.Lines.{row_fields}

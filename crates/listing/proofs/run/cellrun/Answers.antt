@@ -1,7 +1,6 @@
-use Prim.Native.Nat.{◌≤◌}
 use mathlib.Core.Path.{refl, sym, ap}
 use native.Mathlib.Omega.{arith}
-use lib.ListN.{length, length-take}
+use lib.ListN.{length-take}
 use Rattle.text.specs.Line.{Row, row_of}
 use Rattle.text.proofs.Lines.{found_row, no_row}
 use Rattle.listing.specs.Lines.{head_row, size_row}
