@@ -1,5 +1,5 @@
 // The right, grant and byte lines of a listing: each names an entry of a list, in strictly rising order, and its value.
-ghost use Rattle.std.specs.Prelude.{ℕ, ◌≡◌, ◌≤◌, ◌<◌, ◌^◌, ◌*◌, length, map, Option, Some};
+ghost use Rattle.std.specs.Prelude.{ℕ, ◌≡◌, ◌≤◌, ◌<◌, length, map};
 ghost use Rattle.listing.specs.Lines.{Entry as Line, right_at, grant_at, byte_at, option_of_entry};
 ghost use Rattle.listing.specs.Listing.{entries_at};
 ghost use Rattle.listing.specs.Reading.{Reads, FilledAs};
