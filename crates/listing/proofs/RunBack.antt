@@ -14,8 +14,6 @@ use Rattle.text.proofs.Cases.{by_test}
 use Rattle.text.proofs.Room.{put_long, put_front}
 use Rattle.rules.specs.Numbers.{State, N}
 use Rattle.rules.proofs.Sizes.{sized}
-use Rattle.rules.proofs.Kept.{SameShape, shape_same, shape_then}
-use Rattle.rules.proofs.Laws.{shape_kept}
 use Rattle.rules.proofs.Small.{Small, small_kept, number_most, value_most}
 use Rattle.monitor.specs.Runs.{instruction_at, after_first, answer_at}
 use Rattle.listing.specs.Words.{cells_word, answer_word}
@@ -27,18 +25,12 @@ use Rattle.listing.proofs.Written.{lines_next}
 use Rattle.listing.proofs.EntriesBack.{behind}
 use Rattle.listing.proofs.LinesBack.{row3, line3_back, right_first}
 use Rattle.listing.proofs.Back.{rights_back, grants_no_right, rights_at}
-use Rattle.listing.proofs.Whole.{written}
+use Rattle.listing.proofs.Whole.{first_shape, written}
 use Rattle.listing.proofs.Sized.{listing_loaded}
 
 -- ---- the state after the first k instructions
 
 module _ (s : State) (l : List ℕ) where
-  -- M, first, last and offset stay, and every list keeps its length
-  pub first_shape : (k : ℕ) → SameShape s.lent (after_first s l k).lent
-  unfolding after_first
-  first_shape zero = shape_same s.lent
-  first_shape (suc k) = shape_then (first_shape k) (shape_kept (after_first s l k) (instruction_at l k))
-
   -- rights stay 0 to 7, and bytes 0 to 255
   first_small : Small s.lent → (k : ℕ) → Small (after_first s l k).lent
   unfolding after_first

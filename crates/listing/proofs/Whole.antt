@@ -1,6 +1,6 @@
 -- Laws of a whole listing: its stages one after the other, and what is written of them. Assumes nothing.
 use Prim.Native.Nat.{ℕ, zero, suc, ◌+◌, ◌*◌, ◌≤◌, ◌<◌}
-use mathlib.Core.Path.{◌≡◌, refl, sym, ap, ◌∙◌}
+use mathlib.Core.Path.{◌≡◌, refl, sym, ap, subst, ◌∙◌}
 use mathlib.Core.List.{List, [], ◌∷◌, ◌++◌}
 use mathlib.Core.Bool.{true, false}
 use native.Mathlib.Omega.{arith}
@@ -15,7 +15,9 @@ use Rattle.text.proofs.Writing.{put_then}
 use Rattle.text.proofs.Room.{put_long}
 use Rattle.rules.specs.Numbers.{Tables, State, state, tables}
 use Rattle.rules.specs.Refusals.{Outcome}
-use Rattle.monitor.specs.Runs.{room_for, room_in, after_first, answer_at, answers_in, Ran, ran, run_all}
+use Rattle.rules.proofs.Kept.{SameShape, shape_same, shape_then}
+use Rattle.rules.proofs.Laws.{shape_kept}
+use Rattle.monitor.specs.Runs.{instruction_at, room_for, room_in, after_first, answer_at, answers_in, Ran, ran, run_all}
 use Rattle.listing.specs.Words.{bad_word, cells_word}
 use Rattle.listing.specs.Lines.{field, head_row, size_row, right_at, grant_at, byte_at, core_row, registers_in}
 use Rattle.listing.specs.Listing.{run, zeros, Cells, entries_at, Dos, dos_at, cells_at, from_dos, from_core, from_rights, from_size, from_head, listing_in}
@@ -57,6 +59,22 @@ unfolding lines_of
 lines_same f g i zero h = refl
 lines_same f g i (suc k) h =
     rw (h i (omega arith) (omega arith), lines_same f g (i + 1) k (λ j a b. h j (omega arith) (omega arith)))
+
+-- ---- the shape of the tables through a run
+
+-- M, first, last and offset stay, and every list keeps its length
+pub first_shape : (s : State) (l : List ℕ) (k : ℕ) → SameShape s.lent (after_first s l k).lent
+unfolding after_first
+first_shape s l zero = shape_same s.lent
+first_shape s l (suc k) = shape_then (first_shape s l k) (shape_kept (after_first s l k) (instruction_at l k))
+
+pub ran_shape : (s u : State) (l ns₀ vs₀ : List ℕ) {ns vs : List ℕ} → ran u ns vs ≡ run_all s l ns₀ vs₀ → SameShape s.lent u.lent
+ran_shape s u l ns₀ vs₀ e =
+    subst (λ (w : State). SameShape s.lent w.lent) (sym (ap (λ (r : Ran). r.after) e)) (first_shape s l (room_in l ns₀ vs₀))
+
+-- the same text is put
+pub put_same : {o o₁ t u : List ℕ} {at r : ℕ} → t ≡ u → Put o at t r o₁ → Put o at u r o₁
+put_same {o} {o₁} {at = at} {r = r} e p = subst (λ (l : List ℕ). Put o at l r o₁) e p
 
 -- ---- the run: all instructions have room for their answers, which are written, and then the state u
 

@@ -2,7 +2,8 @@
 // a text that is wrong leaves at the stage where it is.
 ghost use Rattle.std.specs.Prelude.{◌≡◌, ◌+◌, ◌*◌, ◌≤◌, length};
 ghost use Rattle.text.specs.Text.{Puts, Ends};
-ghost use Rattle.rules.specs.Numbers.{tables, state};
+ghost use Rattle.rules.specs.Lent.{lent_mut};
+ghost use Rattle.rules.specs.Numbers.{state};
 ghost use Rattle.listing.specs.Lines.{core_row};
 ghost use Rattle.listing.specs.Listing.{run as the_run, from_core, from_rights, cells_at, zeros};
 ghost use Rattle.listing.specs.Output.{body_of};
@@ -14,7 +15,7 @@ use crate::entries::{byte_at, fill, grant_at, right_at};
 use crate::lines::{core_row, head_row, size_row};
 use crate::put::{put_answers, put_bad, put_head, put_state};
 use monitor::execute_all;
-use rules::Registers;
+use rules::{Registers, TablesMut};
 
 // Room for every output, with some to spare: `cells 1`, 5,957 answers, the core, 8,192 rights and 8,192 grants.
 const ROOM: usize = 532480;
@@ -52,13 +53,7 @@ fn no_bytes() -> [u8; 65536]
 
 // Runs the instructions, four numbers each, and writes their answers and the state after them; the place after.
 fn run_instructions(
-    m: usize,
-    first: &[u32],
-    last: &[u32],
-    offset: &[u32],
-    marks: &mut [u8],
-    rights: &mut [u8],
-    grants: &mut [u16],
+    tables: &mut TablesMut,
     memory: &mut [u8],
     registers: Registers,
     instructions: &[u32],
@@ -69,28 +64,15 @@ fn run_instructions(
     at: usize,
 ) -> usize
     requires answers { (length numbers.old ≡ 5957) × (length values.old ≡ 5957) }
-    requires sizes { (1 ≤ m) × (m ≤ 32) × (length rights.old ≤ 8192) × (length grants.old ≤ 8192)
+    requires sizes { (1 ≤ tables.old.m) × (tables.old.m ≤ 32) × (length tables.old.rights.now ≤ 8192) × (length tables.old.grants.now ≤ 8192)
         × (length instructions.now ≡ 4 * count) × (count ≤ 5957) × Roomy at out.old }
-    ensures puts { Puts out at (body_of (the_run (state (tables m first.now last.now offset.now marks.old rights.old grants.old memory.old) registers) count
-        instructions.now)) result }
+    ensures puts { Puts out at (body_of (the_run (state (lent_mut tables.old memory.old) registers) count instructions.now)) result }
     ensures ends { result ≤ output_room }
 {
-    let after = execute_all(
-        m,
-        first,
-        last,
-        offset,
-        marks,
-        rights,
-        grants,
-        memory,
-        registers,
-        instructions,
-        numbers,
-        values,
-    );
-    let a = put_answers(out, at, numbers, values, count);
-    put_state(out, a, after, m, rights, grants)
+    let after = execute_all(tables, memory, registers, instructions, numbers, values);
+    let end = put_answers(out, at, numbers, values, count);
+    let now = tables.tables();
+    put_state(out, end, after, now.m, now.rights, now.grants)
 }
 
 // From the core line on, behind `line` lines.
@@ -98,21 +80,14 @@ fn run_core(
     s: &[u8],
     next: usize,
     line: usize,
-    m: usize,
-    first: &[u32],
-    last: &[u32],
-    offset: &[u32],
-    marks: &mut [u8],
-    rights: &mut [u8],
-    grants: &mut [u16],
+    tables: &mut TablesMut,
     memory: &mut [u8],
     out: &mut [u8],
     at: usize,
 ) -> usize
-    requires { (1 ≤ m) × (m ≤ 32) × (length rights.old ≤ 8192) × (length grants.old ≤ 8192)
+    requires { (1 ≤ tables.old.m) × (tables.old.m ≤ 32) × (length tables.old.rights.now ≤ 8192) × (length tables.old.grants.now ≤ 8192)
         × (length s.now ≤ 65536) × (line ≤ 262144) × Roomy at out.old }
-    ensures puts { Puts out at (body_of (from_core s.now line
-        (tables m first.now last.now offset.now marks.old rights.old grants.old memory.old) (core_row s.now next))) result }
+    ensures puts { Puts out at (body_of (from_core s.now line (lent_mut tables.old memory.old) (core_row s.now next))) result }
     ensures ends { result ≤ output_room }
 {
     let Some(core) = core_row(s, next) else {
@@ -133,13 +108,7 @@ fn run_core(
     let mut numbers = room_for_answers();
     let mut values = room_for_answers();
     run_instructions(
-        m,
-        first,
-        last,
-        offset,
-        marks,
-        rights,
-        grants,
+        tables,
         memory,
         registers,
         &list[..end],
@@ -155,33 +124,37 @@ fn run_core(
 fn run_rights(
     s: &[u8],
     next: usize,
-    m: u32,
     l: u32,
-    first: &[u32],
-    last: &[u32],
-    offset: &[u32],
-    marks: &mut [u8],
-    rights: &mut [u8],
-    grants: &mut [u16],
+    tables: &mut TablesMut,
     memory: &mut [u8],
     out: &mut [u8],
     at: usize,
 ) -> usize
-    requires sizes { (1 ≤ m) × (m ≤ 32) × (l ≤ 65536) × (length first.now ≤ 256) × (length s.now ≤ 65536) × Roomy at out.old }
-    requires zeros { (rights.old ≡ zeros (length first.now * m)) × (grants.old ≡ zeros (length first.now * m)) × (memory.old ≡ zeros l) }
-    ensures puts { Puts out at (body_of (from_rights s.now m l
-        (record { next = next; first = first.now; last = last.now; offset = offset.now; marks = marks.old }))) result }
+    requires sizes { (1 ≤ tables.old.m) × (tables.old.m ≤ 32) × (l ≤ 65536) × (length tables.old.first.now ≤ 256) × (length s.now ≤ 65536) × Roomy at out.old }
+    requires zeros { (tables.old.rights.now ≡ zeros (length tables.old.first.now * tables.old.m))
+        × (tables.old.grants.now ≡ zeros (length tables.old.first.now * tables.old.m)) × (memory.old ≡ zeros l) }
+    ensures puts { Puts out at (body_of (from_rights s.now tables.old.m l (record {
+      next = next;
+      first = tables.old.first.now;
+      last = tables.old.last.now;
+      offset = tables.old.offset.now;
+      marks = tables.old.marks.now;
+    }))) result }
     ensures ends { result ≤ output_room }
 {
-    let n = first.len();
+    let n = tables.first.len();
     let cells = n as u32;
-    let a = fill(|at| right_at(s, at, cells, m), s.len(), next, rights);
-    let b = fill(|at| grant_at(s, at, cells, m), s.len(), a.next, grants);
+    let m = tables.m as u32;
+    let a = fill(|at| right_at(s, at, cells, m), s.len(), next, tables.rights);
+    let b = fill(
+        |at| grant_at(s, at, cells, m),
+        s.len(),
+        a.next,
+        tables.grants,
+    );
     let c = fill(|at| byte_at(s, at, l), s.len(), b.next, memory);
     let line = 2 + n + a.count + b.count + c.count;
-    run_core(
-        s, c.next, line, m as usize, first, last, offset, marks, rights, grants, memory, out, at,
-    )
+    run_core(s, c.next, line, tables, memory, out, at)
 }
 
 // From the cell lines on, with the lists at their largest, of which the parts that the size line asks for are lent on.
@@ -199,23 +172,19 @@ fn run_cells(s: &[u8], next: usize, m: u32, l: u32, out: &mut [u8], at: usize) -
     let mut memory = no_bytes();
     let cells = cells_at(s, next, &mut first, &mut last, &mut offset, &mut marks);
     let n = cells.count;
-    let entries = n * m as usize;
+    let m = m as usize;
+    let entries = n * m;
     let bytes = l as usize;
-    run_rights(
-        s,
-        cells.next,
+    let mut tables = TablesMut {
         m,
-        l,
-        &first[..n],
-        &last[..n],
-        &offset[..n],
-        &mut marks[..n],
-        &mut rights[..entries],
-        &mut grants[..entries],
-        &mut memory[..bytes],
-        out,
-        at,
-    )
+        first: &first[..n],
+        last: &last[..n],
+        offset: &offset[..n],
+        marks: &mut marks[..n],
+        rights: &mut rights[..entries],
+        grants: &mut grants[..entries],
+    };
+    run_rights(s, cells.next, l, &mut tables, &mut memory[..bytes], out, at)
 }
 
 // What `cellrun` writes of the text `s`, to the front of `out`, and how long it is. Where `out` has not the 532,480 bytes that

@@ -17,20 +17,20 @@ overflow_mul-entries c =
     let k = (goal.at.overflow_mul-entries c).After-cells_at-cells in
     omega (arith, entries k)
 
-pub slice_bounds-run_rights-end : goal.slice_bounds-run_rights-end
-slice_bounds-run_rights-end c =
+pub slice_bounds-tables-end : goal.slice_bounds-tables-end
+slice_bounds-tables-end c =
     sym (length-take-le _ _ (omega (arith, c.cells_at-cells.ensures.few, c.cells_at-cells.auto.first)))
 
-pub slice_bounds-run_rights-end-2 : goal.slice_bounds-run_rights-end-2
-slice_bounds-run_rights-end-2 c =
+pub slice_bounds-tables-end-2 : goal.slice_bounds-tables-end-2
+slice_bounds-tables-end-2 c =
     sym (length-take-le _ _ (omega (arith, c.cells_at-cells.ensures.few, c.cells_at-cells.auto.last)))
 
-pub slice_bounds-run_rights-end-3 : goal.slice_bounds-run_rights-end-3
-slice_bounds-run_rights-end-3 c =
+pub slice_bounds-tables-end-3 : goal.slice_bounds-tables-end-3
+slice_bounds-tables-end-3 c =
     sym (length-take-le _ _ (omega (arith, c.cells_at-cells.ensures.few, c.cells_at-cells.auto.offset)))
 
-pub slice_bounds-run_rights-end-4 : goal.slice_bounds-run_rights-end-4
-slice_bounds-run_rights-end-4 c =
+pub slice_bounds-tables-end-4 : goal.slice_bounds-tables-end-4
+slice_bounds-tables-end-4 c =
     sym (length-take-le _ _ (omega (arith, c.cells_at-cells.ensures.few, c.cells_at-cells.auto.marks)))
 
 pub slice_bounds-rights-end : goal.slice_bounds-rights-end
@@ -38,9 +38,9 @@ slice_bounds-rights-end c =
     let k = (goal.at.slice_bounds-rights-end c).After-cells_at-cells in
     omega (arith, entries k)
 
-pub slice_bounds-run_rights-end-5 : goal.slice_bounds-run_rights-end-5
-slice_bounds-run_rights-end-5 c =
-    let k = (goal.at.slice_bounds-run_rights-end-5 c).After-cells_at-cells in
+pub slice_bounds-tables-end-5 : goal.slice_bounds-tables-end-5
+slice_bounds-tables-end-5 c =
+    let k = (goal.at.slice_bounds-tables-end-5 c).After-cells_at-cells in
     rw c.no_rights-rights.ensures (part_long _ 8192 (entries k))
 
 pub slice_bounds-grants-end : goal.slice_bounds-grants-end
@@ -48,13 +48,13 @@ slice_bounds-grants-end c =
     let k = (goal.at.slice_bounds-grants-end c).After-cells_at-cells in
     omega (arith, entries k)
 
-pub slice_bounds-run_rights-end-6 : goal.slice_bounds-run_rights-end-6
-slice_bounds-run_rights-end-6 c =
-    let k = (goal.at.slice_bounds-run_rights-end-6 c).After-cells_at-cells in
+pub slice_bounds-tables-end-6 : goal.slice_bounds-tables-end-6
+slice_bounds-tables-end-6 c =
+    let k = (goal.at.slice_bounds-tables-end-6 c).After-cells_at-cells in
     rw c.no_grants-grants.ensures (part_long _ 8192 (entries k))
 
-pub slice_bounds-run_rights-end-7 : goal.slice_bounds-run_rights-end-7
-slice_bounds-run_rights-end-7 c =
+pub slice_bounds-run_rights-end : goal.slice_bounds-run_rights-end
+slice_bounds-run_rights-end c =
     rw c.no_bytes-memory.ensures (part_long _ 65536 c.requires.2)
 
 pub run_rights-requires : goal.run_rights-requires

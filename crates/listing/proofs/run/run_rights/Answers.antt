@@ -12,13 +12,13 @@ use Rattle.listing.proofs.run.run_rights.Goals as goal
 use Rattle.listing.proofs.run.run_rights.Goals.{After-fill-c, Start}
 
 -- as many entries as there are cells and divisions
-entries : (c : Start) → length c.args.first.now * c.args.m ≤ 8192
+entries : (c : Start) → length c.args.tables.now.first.now * c.args.tables.now.m ≤ 8192
 entries c = product_small _ _ c.requires.sizes.3 c.requires.sizes.1
 
-rights_long : (c : Start) → length c.args.first.now * c.args.m ≡ length c.args.rights.now
+rights_long : (c : Start) → length c.args.tables.now.first.now * c.args.tables.now.m ≡ length c.args.tables.now.rights.now
 rights_long c = sym (ap (length {A = ℕ}) c.requires.zeros.0 ∙ length-replicate _ 0)
 
-grants_long : (c : Start) → length c.args.first.now * c.args.m ≡ length c.args.grants.now
+grants_long : (c : Start) → length c.args.tables.now.first.now * c.args.tables.now.m ≡ length c.args.tables.now.grants.now
 grants_long c = sym (ap (length {A = ℕ}) c.requires.zeros.1 ∙ length-replicate _ 0)
 
 bytes_long : (c : Start) → c.args.l ≡ length c.args.memory.now
@@ -27,12 +27,12 @@ bytes_long c = sym (ap (length {A = ℕ}) c.requires.zeros.2 ∙ length-replicat
 pub fill-a-requires-clause-inside : goal.fill-a-requires-clause-inside
 fill-a-requires-clause-inside c = λ at e post.
     let a = (goal.at.fill-a-requires-clause-inside c).Start in
-    omega (arith, rights_long a, right_key (length c.args.first.now) c.args.m c.args.s.now at {e = e} (search rules))
+    omega (arith, rights_long a, right_key (length c.args.tables.now.first.now) c.args.tables.now.m c.args.s.now at {e = e} (search rules))
 
 pub fill-b-requires-clause-inside : goal.fill-b-requires-clause-inside
 fill-b-requires-clause-inside c = λ at e post.
     let a = (goal.at.fill-b-requires-clause-inside c).Start in
-    omega (arith, grants_long a, grant_key (length c.args.first.now) c.args.m c.args.s.now at {e = e} (search rules))
+    omega (arith, grants_long a, grant_key (length c.args.tables.now.first.now) c.args.tables.now.m c.args.s.now at {e = e} (search rules))
 
 pub fill-c-requires-clause-inside : goal.fill-c-requires-clause-inside
 fill-c-requires-clause-inside c = λ at e post.
@@ -53,7 +53,7 @@ overflow_add-line-3 c =
 
 -- so many lines stand before the core at most
 few_lines : (b : After-fill-c)
-    → 2 + length b.args.first.now + b.fill-a.result.count
+    → 2 + length b.args.tables.now.first.now + b.fill-a.result.count
     + b.fill-b.result.count + b.fill-c.result.count
     ≤ 262144
 few_lines b =
@@ -78,25 +78,22 @@ run_core-requires c =
       c.requires.sizes.5,
     )
 
-pub shape_of-rights : goal.shape_of-rights
-shape_of-rights c =
-    c.run_core.auto.rights ∙ c.fill-a.auto.list
-
 pub returns : goal.returns
 returns c =
     let a = c.args in
-    let n = length a.first.now in
+    let n = length a.tables.now.first.now in
+    let m = a.tables.now.m in
     let s = a.s.now in
     let rights =
-    filled_plain _ _ _ _ _ _ (c.fill-a.ensures.filled (λ x. x) (right_at n a.m s) (λ at r post. told (right_at n a.m s at) r (search rules))) in
+    filled_plain _ _ _ _ _ _ (c.fill-a.ensures.filled (λ x. x) (right_at n m s) (λ at r post. told (right_at n m s at) r (search rules))) in
     let grants =
-    filled_plain _ _ _ _ _ _ (c.fill-b.ensures.filled (λ x. x) (grant_at n a.m s) (λ at r post. told (grant_at n a.m s at) r (search rules))) in
+    filled_plain _ _ _ _ _ _ (c.fill-b.ensures.filled (λ x. x) (grant_at n m s) (λ at r post. told (grant_at n m s at) r (search rules))) in
     let bytes =
     filled_plain _ _ _ _ _ _ (c.fill-c.ensures.filled (λ x. x) (byte_at a.l s) (λ at r post. told (byte_at a.l s at) r (search rules))) in
-    let cells : Cells = record { next = a.next; first = a.first.now; last = a.last.now; offset = a.offset.now; marks = a.marks.now } in
+    let cells : Cells = record { next = a.next; first = a.tables.now.first.now; last = a.tables.now.last.now; offset = a.tables.now.offset.now; marks = a.tables.now.marks.now } in
     let same =
-    rights_read s a.m a.l cells c.fill-a.result c.fill-b.result c.fill-c.result a.rights.now c.fill-a.new.list
-    a.grants.now c.fill-b.new.list a.memory.now c.fill-c.new.list c.requires.zeros.0 c.requires.zeros.1
+    rights_read s m a.l cells c.fill-a.result c.fill-b.result c.fill-c.result a.tables.now.rights.now c.fill-a.new.list
+    a.tables.now.grants.now c.fill-b.new.list a.memory.now c.fill-c.new.list c.requires.zeros.0 c.requires.zeros.1
     c.requires.zeros.2 rights grants bytes in
     record {
       puts = rw (← same) c.run_core.ensures.puts;
