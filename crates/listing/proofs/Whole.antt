@@ -60,6 +60,10 @@ lines_same f g i zero h = refl
 lines_same f g i (suc k) h =
     rw (h i (omega arith) (omega arith), lines_same f g (i + 1) k (λ j a b. h j (omega arith) (omega arith)))
 
+-- a list at its largest
+pub filled_long : {l : List ℕ} (n : ℕ) → l ≡ zeros n → length l ≡ n
+filled_long n e = ap (length {A = ℕ}) e ∙ length-replicate n 0
+
 -- ---- the shape of the tables through a run
 
 -- M, first, last and offset stay, and every list keeps its length

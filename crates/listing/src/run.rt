@@ -1,6 +1,6 @@
 // A listing run: the text in, and what is written of it out. Each function does one stage and hands on to the next, so that
 // a text that is wrong leaves at the stage where it is.
-ghost use Rattle.std.specs.Prelude.{◌≡◌, ◌+◌, ◌*◌, ◌≤◌, length};
+ghost use Rattle.std.specs.Prelude.{◌≡◌, ◌+◌, ◌*◌, ◌≤◌, length, replicate};
 ghost use Rattle.text.specs.Text.{Puts, Ends};
 ghost use Rattle.rules.specs.Lent.{lent_mut};
 ghost use Rattle.rules.specs.Numbers.{state};
@@ -20,35 +20,11 @@ use rules::{Registers, TablesMut};
 // Room for every output, with some to spare: `cells 1`, 5,957 answers, the core, 8,192 rights and 8,192 grants.
 const ROOM: usize = 532480;
 
-// Lists at their largest. Each comes from a function of its own, so that a proof knows no more of it than it needs.
-fn room_for_answers() -> [u32; 5957]
-    ensures { 5957 ≡ length result }
+// A list at its largest. It comes from a function of its own, so that a proof knows no more of it than it needs.
+fn filled<T: Copy, const N: usize>(value: T) -> [T; N]
+    ensures { result ≡ replicate N value }
 {
-    [0; 5957]
-}
-
-fn room_for_instructions() -> [u32; 23828]
-    ensures { 23828 ≡ length result }
-{
-    [0; 23828]
-}
-
-fn no_rights() -> [u8; 8192]
-    ensures { result ≡ zeros 8192 }
-{
-    [0; 8192]
-}
-
-fn no_grants() -> [u16; 8192]
-    ensures { result ≡ zeros 8192 }
-{
-    [0; 8192]
-}
-
-fn no_bytes() -> [u8; 65536]
-    ensures { result ≡ zeros 65536 }
-{
-    [0; 65536]
+    [value; N]
 }
 
 // Runs the instructions, four numbers each, and writes their answers and the state after them; the place after.
@@ -93,7 +69,7 @@ fn run_core(
     let Some(core) = core_row(s, next) else {
         return put_bad(out, at, (line + 1) as u32);
     };
-    let mut list = room_for_instructions();
+    let mut list = filled::<u32, 23828>(0);
     let dos = dos_at(s, core.next, &mut list);
     let count = dos.count;
     if dos.next != s.len() {
@@ -105,8 +81,8 @@ fn run_core(
         caller: core.v[1],
         place: core.v[2],
     };
-    let mut numbers = room_for_answers();
-    let mut values = room_for_answers();
+    let mut numbers = filled::<u32, 5957>(0);
+    let mut values = filled::<u32, 5957>(0);
     run_instructions(
         tables,
         memory,
@@ -167,9 +143,9 @@ fn run_cells(s: &[u8], next: usize, m: u32, l: u32, out: &mut [u8], at: usize) -
     let mut last = [0u32; 256];
     let mut offset = [0u32; 256];
     let mut marks = [0u8; 256];
-    let mut rights = no_rights();
-    let mut grants = no_grants();
-    let mut memory = no_bytes();
+    let mut rights = filled::<u8, 8192>(0);
+    let mut grants = filled::<u16, 8192>(0);
+    let mut memory = filled::<u8, 65536>(0);
     let cells = cells_at(s, next, &mut first, &mut last, &mut offset, &mut marks);
     let n = cells.count;
     let m = m as usize;

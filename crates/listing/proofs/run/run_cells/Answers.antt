@@ -41,7 +41,7 @@ slice_bounds-rights-end c =
 pub slice_bounds-tables-end-5 : goal.slice_bounds-tables-end-5
 slice_bounds-tables-end-5 c =
     let k = (goal.at.slice_bounds-tables-end-5 c).After-cells_at-cells in
-    rw c.no_rights-rights.ensures (part_long _ 8192 (entries k))
+    rw c.filled-rights.ensures (part_long _ 8192 (entries k))
 
 pub slice_bounds-grants-end : goal.slice_bounds-grants-end
 slice_bounds-grants-end c =
@@ -51,11 +51,11 @@ slice_bounds-grants-end c =
 pub slice_bounds-tables-end-6 : goal.slice_bounds-tables-end-6
 slice_bounds-tables-end-6 c =
     let k = (goal.at.slice_bounds-tables-end-6 c).After-cells_at-cells in
-    rw c.no_grants-grants.ensures (part_long _ 8192 (entries k))
+    rw c.filled-grants.ensures (part_long _ 8192 (entries k))
 
 pub slice_bounds-run_rights-end : goal.slice_bounds-run_rights-end
 slice_bounds-run_rights-end c =
-    rw c.no_bytes-memory.ensures (part_long _ 65536 c.requires.2)
+    rw c.filled-memory.ensures (part_long _ 65536 c.requires.2)
 
 pub run_rights-requires : goal.run_rights-requires
 run_rights-requires c =
@@ -67,9 +67,9 @@ run_rights-requires c =
     record {
       sizes = (a.0, a.1, a.2, omega (arith, c.cells_at-cells.ensures.few), a.3, a.4);
       zeros = (
-        rw (long, c.no_rights-rights.ensures) (zeros_part _ 8192 (entries k)),
-        rw (long, c.no_grants-grants.ensures) (zeros_part _ 8192 (entries k)),
-        rw c.no_bytes-memory.ensures (zeros_part _ 65536 a.2),
+        rw (long, c.filled-rights.ensures) (zeros_part _ 8192 (entries k)),
+        rw (long, c.filled-grants.ensures) (zeros_part _ 8192 (entries k)),
+        rw c.filled-memory.ensures (zeros_part _ 65536 a.2),
       );
     }
 

@@ -7,7 +7,7 @@ use Rattle.text.specs.Line.{row_of}
 use Rattle.text.proofs.Lines.{found_row, no_row}
 use Rattle.listing.specs.Lines.{core_row}
 use Rattle.listing.specs.Listing.{Dos}
-use Rattle.listing.proofs.Whole.{core_wrong, dos_wrong, dos_right}
+use Rattle.listing.proofs.Whole.{filled_long, core_wrong, dos_wrong, dos_right}
 use Rattle.listing.proofs.run.run_core.Goals as goal
 use Rattle.listing.proofs.run.run_core.Goals.{After-dos_at-dos, Start}
 
@@ -23,7 +23,7 @@ done c =
 -- the numbers of the do lines lie in their list
 inside : (c : After-dos_at-dos) → 4 * c.dos_at-dos.result.count ≤ length c.dos_at-dos.new.list
 inside c =
-    omega (arith, c.dos_at-dos.ensures.few, c.dos_at-dos.auto.list, c.room_for_instructions-list.ensures)
+    omega (arith, c.dos_at-dos.ensures.few, c.dos_at-dos.auto.list, filled_long 23828 c.filled-list.ensures)
 
 pub returns-in_default : goal.returns-in_default
 returns-in_default c =
@@ -57,7 +57,7 @@ run_instructions-requires c =
     let dos = (goal.at.run_instructions-requires c).After-dos_at-dos in
     let asked = c.requires in
     record {
-      answers = (sym c.room_for_answers-numbers.ensures, sym c.room_for_answers-values.ensures);
+      answers = (filled_long 5957 c.filled-numbers.ensures, filled_long 5957 c.filled-values.ensures);
       sizes = (asked.0, asked.1, asked.2, asked.3, length-take-le _ _ (inside dos), c.dos_at-dos.ensures.few, asked.6);
     }
 
