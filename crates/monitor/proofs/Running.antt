@@ -1,5 +1,6 @@
 -- Laws of instructions one after the other: a turn of the loop, and a list that is refused as a whole. Assumes nothing.
-use Rattle.std.specs.Prelude.{◌++◌, replicate, drop}
+use Rattle.std.specs.Prelude.{◌++◌, replicate, take, drop}
+use Rattle.std.proofs.Common.{length-take-le}
 use Rattle.std.proofs.lemmas.List.Edits.{fill_none, fill_more}
 use Prim.Native.Nat.{ℕ, zero, suc, ◌+◌, ◌-◌, ◌*◌, ◌≤◌}
 use mathlib.Core.Path.{◌≡◌, refl, sym, ap, ◌∙◌, subst}
@@ -119,12 +120,16 @@ module _ (s : State) (a : Answer) (e : a ≡ first_answer s) (h : a.number ≡ 0
 
 -- ---- filling
 
-pub filled_front : (v k : ℕ) (out : List ℕ) → k ≤ length out → replicate k v ++ drop k out ≡ filled v k out
+filled_front : (v k : ℕ) (out : List ℕ) → k ≤ length out → replicate k v ++ drop k out ≡ filled v k out
 unfolding filled
 filled_front v zero out h = sym (fill_none out v)
 filled_front v (suc k) out h =
     rw (← filled_front v k out (omega arith))
     (subst (λ n. replicate n v ++ drop n out ≡ set (replicate k v ++ drop k out) k v) (add-one k) (sym (fill_more k v out (omega arith))))
+
+-- the part of a list up to k was filled
+pub filled_part : (v k : ℕ) (out part : List ℕ) → k ≤ length out → part ≡ replicate (length (take k out)) v → part ++ drop k out ≡ filled v k out
+filled_part v k out part h e = rw (e, length-take-le k out h) (filled_front v k out h)
 
 -- ---- a list of one
 

@@ -22,7 +22,7 @@ ghost use Rattle.monitor.specs.Ready.{first_answer};
 ghost use Rattle.monitor.specs.Leaves.{located, placed_in};
 
 use block::{copy_into, locate};
-use list::{fill, room_for, run_list};
+use list::{room_for, run_list};
 use reply::Accepted;
 pub use reply::{Reply, ViewPlace};
 use rules::{Refusal, Registers, Tables, TablesMut};
@@ -72,8 +72,8 @@ pub fn execute_all(
             values,
         ),
         Err(refusal) => {
-            fill(numbers, count, refusal.number());
-            fill(values, count, refusal.value());
+            numbers[..count].fill(refusal.number());
+            values[..count].fill(refusal.value());
             registers
         }
     }

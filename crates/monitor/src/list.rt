@@ -4,7 +4,6 @@ ghost use Rattle.rules.specs.Lent.{lent_mut, SameLists};
 ghost use Rattle.rules.specs.Numbers.{state};
 ghost use Rattle.rules.proofs.Kept.{Begun};
 ghost use Rattle.monitor.specs.Runs.{room_for, ran, run_first};
-ghost use Rattle.monitor.specs.Leaves.{filled};
 
 use crate::step::perform;
 use rules::{Registers, TablesMut};
@@ -15,14 +14,6 @@ pub fn room_for(instructions: usize, numbers: usize, values: usize) -> usize
     ensures { result ≡ room_for instructions numbers values }
 {
     (instructions / 4).min(numbers).min(values)
-}
-
-// The first `count` entries become `v`.
-pub fn fill(entries: &mut [u32], count: usize, v: u32)
-    requires { count ≤ length entries.old }
-    ensures { entries.new ≡ filled v count entries.old }
-{
-    entries[..count].fill(v);
 }
 
 // The first `count` instructions in turn, on tables and registers that checks 1, 2 and 3 let through: an instruction keeps

@@ -1,12 +1,13 @@
 -- Checks 1, 2 and 3 once, and then the list, or every answer filled with their refusal.
 use Prim.Native.Nat.{◌≤◌, ◌*◌}
-use mathlib.Core.Path.{refl}
+use mathlib.Core.Path.{refl, sym}
+use Rattle.std.proofs.Common.{length-take-le}
 use native.Mathlib.Omega.{arith}
 use lib.ListN.{length}
 use Rattle.rules.proofs.Refusing.{some_number}
 use Rattle.monitor.proofs.Beginning.{first_begun}
 use Rattle.monitor.proofs.Readiness.{seen_first}
-use Rattle.monitor.proofs.Running.{room_whole, room_numbers, room_values, ran_as, refused_ran}
+use Rattle.monitor.proofs.Running.{room_whole, room_numbers, room_values, ran_as, refused_ran, filled_part}
 use Rattle.monitor.proofs.execute_all.Goals as goal
 use Rattle.monitor.proofs.execute_all.Goals.{After-room_for-count}
 
@@ -35,11 +36,17 @@ run_list-requires c =
       room = (r.whole, (r.numbered, r.valued));
     }
 
-pub fill-requires : goal.fill-requires
-fill-requires c = (room (goal.at.fill-requires c).After-room_for-count).numbered
+pub slice_bounds-fill-end : goal.slice_bounds-fill-end
+slice_bounds-fill-end c = (room (goal.at.slice_bounds-fill-end c).After-room_for-count).numbered
 
-pub fill-requires-in-Err : goal.fill-requires-in-Err
-fill-requires-in-Err c = (room (goal.at.fill-requires-in-Err c).After-room_for-count).valued
+pub slice_bounds-fill-end-in-Err : goal.slice_bounds-fill-end-in-Err
+slice_bounds-fill-end-in-Err c = sym (length-take-le _ _ (room (goal.at.slice_bounds-fill-end-in-Err c).After-room_for-count).numbered)
+
+pub slice_bounds-fill-end-in-Err-2 : goal.slice_bounds-fill-end-in-Err-2
+slice_bounds-fill-end-in-Err-2 c = (room (goal.at.slice_bounds-fill-end-in-Err-2 c).After-room_for-count).valued
+
+pub slice_bounds-fill-end-in-Err-3 : goal.slice_bounds-fill-end-in-Err-3
+slice_bounds-fill-end-in-Err-3 c = sym (length-take-le _ _ (room (goal.at.slice_bounds-fill-end-in-Err-3 c).After-room_for-count).valued)
 
 pub returns-in-Ok-clause-answers : goal.returns-in-Ok-clause-answers
 returns-in-Ok-clause-answers c =
@@ -48,7 +55,10 @@ returns-in-Ok-clause-answers c =
 pub returns-in-Err-clause-answers : goal.returns-in-Err-clause-answers
 returns-in-Err-clause-answers c =
     let l = c.args.instructions.now in
+    let k = c.room_for-count.result in
+    let r = room (goal.at.returns-in-Err-clause-answers c).After-room_for-count in
     let first = seen_first _ _ c.tables.ensures c.args.memory.now c.args.registers c.in-Err.ensures in
+    let ns = filled_part c.number.result k c.args.numbers.now c.fill.new.self r.numbered (c.fill.ensures.after (λ y e. e)) in
+    let vs = filled_part c.value.result k c.args.values.now c.fill-in-Err.new.self r.valued (c.fill-in-Err.ensures.after (λ y e. e)) in
     ran_as _ l c.args.numbers.now c.args.values.now c.room_for-count.ensures
-    (refused_ran _ _ first (some_number c.in-Err.refusal) l _ c.args.numbers.now c.args.values.now
-      (rw (← c.number.ensures) c.fill.ensures) (rw (← c.value.ensures) c.fill-in-Err.ensures))
+    (refused_ran _ _ first (some_number c.in-Err.refusal) l _ c.args.numbers.now c.args.values.now (rw (← c.number.ensures) ns) (rw (← c.value.ensures) vs))
