@@ -9,7 +9,7 @@ ghost use Rattle.monitor.specs.Answers.{came, view_place_in};
 ghost use Rattle.monitor.specs.Runs.{ran, run_all};
 
 use monitor::{Reply, ViewPlace};
-use rules::Registers;
+use rules::{Registers, Tables, TablesMut};
 
 // One instruction, given as four numbers.
 #[unsafe(no_mangle)]
@@ -31,9 +31,16 @@ pub extern "C" fn cells_execute(
     ensures { came result (tables m first.exit.now last.exit.now offset.exit.now marks.new rights.new grants.new memory.new)
         ≡ performed (state (tables m first.now last.now offset.now marks.old rights.old grants.old memory.old) registers) (instruction number x y z) }
 {
-    monitor::execute(
-        m, first, last, offset, marks, rights, grants, memory, registers, number, x, y, z,
-    )
+    let mut tables = TablesMut {
+        m,
+        first,
+        last,
+        offset,
+        marks,
+        rights,
+        grants,
+    };
+    monitor::execute(&mut tables, memory, registers, number, x, y, z)
 }
 
 // Instructions in turn, four numbers each, with their answers in two lists.
@@ -55,7 +62,7 @@ pub extern "C" fn cells_execute_all(
     ensures { ran (state (tables m first.exit.now last.exit.now offset.exit.now marks.new rights.new grants.new memory.new) result) numbers.new values.new
         ≡ run_all (state (tables m first.now last.now offset.now marks.old rights.old grants.old memory.old) registers) instructions.now numbers.old values.old }
 {
-    monitor::execute_all(
+    let mut tables = TablesMut {
         m,
         first,
         last,
@@ -63,6 +70,9 @@ pub extern "C" fn cells_execute_all(
         marks,
         rights,
         grants,
+    };
+    monitor::execute_all(
+        &mut tables,
         memory,
         registers,
         instructions,
@@ -89,9 +99,16 @@ pub extern "C" fn cells_write_block(
     ensures { came result (tables m first.exit.now last.exit.now offset.exit.now marks.exit.now rights.exit.now grants.exit.now memory.new)
         ≡ performed (state (tables m first.now last.now offset.now marks.now rights.now grants.now memory.old) registers) (block_write x bytes.now) }
 {
-    monitor::write_block(
-        m, first, last, offset, marks, rights, grants, memory, registers, x, bytes,
-    )
+    let tables = Tables {
+        m,
+        first,
+        last,
+        offset,
+        marks,
+        rights,
+        grants,
+    };
+    monitor::write_block(tables, memory, registers, x, bytes)
 }
 
 // A read view's answer, with the place of its part in the memory: no reference can be handed out to C.
@@ -111,7 +128,14 @@ pub extern "C" fn cells_view(
 ) -> ViewPlace
     ensures { result ≡ view_place_in (state (tables m first.now last.now offset.now marks.now rights.now grants.now memory.now) registers) x n }
 {
-    monitor::view_place(
-        m, first, last, offset, marks, rights, grants, memory, registers, x, n,
-    )
+    let tables = Tables {
+        m,
+        first,
+        last,
+        offset,
+        marks,
+        rights,
+        grants,
+    };
+    monitor::view_place(tables, memory, registers, x, n)
 }

@@ -1,5 +1,7 @@
--- The call that is exported ensures it, word for word.
+-- The lists that the call wrote through the tables are the caller's, since it kept their names.
+use Rattle.std.proofs.Common.{rules}
+use Rattle.cells.proofs.Returning.{came_back}
 use Rattle.cells.proofs.cells_execute.Goals as goal
 
 pub returns : goal.returns
-returns c = c.execute.ensures
+returns c = came_back _ c.execute.new.tables _ _ _ _ _ _ c.execute.ensures.answer (search rules) (search rules) (search rules)
