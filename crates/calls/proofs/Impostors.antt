@@ -9,13 +9,14 @@ use native.Mathlib.Omega.{arith}
 use lib.ListN.{get_or}
 use Rattle.rules.specs.Below.{every, count, lowest_from, lowest}
 use Rattle.rules.specs.Numbers.{Tables, tables, State, state, in_bounds, right_lengths, part_of, larger, join}
-use Rattle.rules.specs.Lent.{Slice, MutSlice, Passed, lent_all, rest_of}
+use Rattle.rules.specs.Lent.{Slice, MutSlice}
 use Rattle.rules.specs.Sound.{sound_grant, holders, after_cell_before, sound_cell, sound_tables, lowest_unsound}
 use Rattle.rules.specs.Refusals.{Outcome, first_failing, answered, well_sized, known_divisions}
 use Rattle.rules.specs.Instructions.{no_operands, byte_operand, division_operand, rights_operand, grant_operands, source_operand, formed, covers, covering_cell, covered, valid, place, word_in, whole_word, grant_names, other_holder, nobody_else, needs, effect, registers_after, value_of}
 use Rattle.rules.specs.Calls.{kind_checks, checks, done_at, done, performed}
 use Rattle.rules.specs.Bench.{listed}
 use Rattle.rules.specs.declared.Registers.{Registers}
+use Rattle.rules.specs.declared.TablesMut.{TablesMut as LentTablesMut}
 use Rattle.rules.proofs.Laws.{shape_kept}
 use Rattle.monitor.specs.Runs.{instruction_at, room_for, room_in, after_first, answers_in, Ran}
 use Rattle.monitor.specs.declared.reply.Reply.{Reply}
@@ -23,7 +24,8 @@ use Rattle.monitor.proofs.Running.{no_part}
 use Rattle.monitor.proofs.Unique.{lists, answers}
 use Rattle.monitor.proofs.execute.Reads as execute-reads
 use Rattle.monitor.proofs.execute_all.Reads as execute-all-reads
-use Rattle.calls.proofs.Mixtures.{state_of, instruction_of}
+use Rattle.calls.proofs.Contracts.{given, own}
+use Rattle.calls.proofs.Mixtures.{GivenAll, state_of, instruction_of}
 
 -- ---- document 01's listing, lent at some place
 
@@ -33,32 +35,24 @@ show l = record { ref_ptr = (0, 0); now = l }
 abbrev lend : List ℕ → MutSlice
 lend l = record { ref_ptr = (0, 0); ghost_name = 0; now = l }
 
--- with the registers at 0, and the rest of what a call takes
-abbrev lending : {Rest : Type 0} → Rest → Passed MutSlice MutSlice (Registers × Rest)
-lending rest = (
-  listed.M,
-  (
-    show listed.first,
-    (
-      show listed.last,
-      (
-        show listed.offset,
-        (
-          lend listed.marks,
-          (
-            lend listed.rights,
-            (lend listed.grants, (lend listed.memory, (record { current = 0; caller = 0; place = 0 }, rest))),
-          ),
-        ),
-      ),
-    ),
-  ),
-)
+-- the tables, the memory and the registers at 0, and what is the call's own
+abbrev lending : {Own : Type 0} → Own → GivenAll Own
+lending rest =
+    let tables : LentTablesMut = record {
+      m = listed.M;
+      first = show listed.first;
+      last = show listed.last;
+      offset = show listed.offset;
+      marks = lend listed.marks;
+      rights = lend listed.rights;
+      grants = lend listed.grants;
+    } in
+    given (record { ref_ptr = (0, 0); ghost_name = 0; now = tables }) (lend listed.memory) (record { current = 0; caller = 0; place = 0 }) rest
 
 -- ---- one instruction
 
 abbrev One : Type 0
-One = Passed MutSlice MutSlice (Registers × (ℕ × (ℕ × (ℕ × (ℕ × Unit {0})))))
+One = GivenAll (ℕ × (ℕ × (ℕ × (ℕ × Unit {0}))))
 
 abbrev one : (number x y z : ℕ) → One
 one number x y z = lending (number, (x, (y, (z, tt))))
@@ -71,36 +65,47 @@ answer a = performed (state_of a) (instruction_of a)
 abbrev pub reply_of : One → Reply
 reply_of a = record { number = (answer a).number; value = (answer a).value; registers = (answer a).after.registers }
 
+-- and leaves what it was lent in its place, with the lists that document 01 has then
+abbrev holding : MutSlice → List ℕ → MutSlice
+holding s l = record { ref_ptr = s.ref_ptr; ghost_name = s.ghost_name; now = l }
+
+abbrev holding_all : LentTablesMut → Tables → LentTablesMut
+holding_all d t = record {
+  m = d.m;
+  first = d.first;
+  last = d.last;
+  offset = d.offset;
+  marks = holding d.marks t.marks;
+  rights = holding d.rights t.rights;
+  grants = holding d.grants t.grants;
+}
+
 abbrev pub exit_of : One → One
 exit_of a =
-    let t = (answer a).after.lent in (
-      a.0,
-      (
-        show t.first,
-        (
-          show t.last,
-          (show t.offset, (lend t.marks, (lend t.rights, (lend t.grants, (lend t.memory, rest_of a))))),
-        ),
-      ),
-    )
+    let t = (answer a).after.lent in
+    (record { ref_ptr = a.0.ref_ptr; ghost_name = a.0.ghost_name; now = holding_all a.0.now t }, (holding a.1.0 t.memory, a.1.1))
 
 pub contract_met : (κs : _) (a : One) → execute-reads.Post κs a (reply_of a) (exit_of a)
 contract_met κs a =
     let s = state_of a in
     let t = (answer a).after.lent in
-    let m = (shape_kept s (instruction_of a)).divisions in
-    let p = no_part s (rest_of a).1.0 (rest_of a).1.1.0 (rest_of a).1.1.1.0 (rest_of a).1.1.1.1.0 in
-    λ i. record {
-      number = (answer a).number;
-      value = (answer a).value;
-      part = sym p i;
-      after = state (tables (sym m i) t.first t.last t.offset t.marks t.rights t.grants t.memory) (answer a).after.registers;
-    }
+    let h = shape_kept s (instruction_of a) in
+    let p = no_part s (own a).0 (own a).1.0 (own a).1.1.0 (own a).1.1.1.0 in (
+      λ i. record {
+        number = (answer a).number;
+        value = (answer a).value;
+        part = sym p i;
+        after = state
+            (tables (sym h.divisions i) (sym h.firsts i) (sym h.lasts i) (sym h.offsets i) t.marks t.rights t.grants t.memory)
+            (answer a).after.registers;
+      },
+      record { marks = refl; rights = refl; grants = refl },
+    )
 
 -- ---- a list of instructions
 
 abbrev Many : Type 0
-Many = Passed MutSlice MutSlice (Registers × (Slice × (MutSlice × (MutSlice × Unit {0}))))
+Many = GivenAll (Slice × (MutSlice × (MutSlice × Unit {0})))
 
 -- store 65 at 4096, and load it: two answers
 abbrev two : Many
@@ -112,11 +117,11 @@ twice = lending (show (4 ∷ 4096 ∷ 1 ∷ 0 ∷ 4 ∷ 4096 ∷ 0 ∷ 0 ∷ [])
 
 -- how many instructions there are with room for both answers
 abbrev room : Many → ℕ
-room a = room_in (rest_of a).1.0.now (rest_of a).1.1.0.now (rest_of a).1.1.1.0.now
+room a = room_in (own a).0.now (own a).1.0.now (own a).1.1.0.now
 
 -- the state after the first instruction alone
 abbrev after_one : Many → State
-after_one a = after_first (state_of a) (rest_of a).1.0.now 1
+after_one a = after_first (state_of a) (own a).0.now 1
 
 -- ---- the closed cases
 
@@ -128,11 +133,11 @@ record Cases : Type 0 where
   -- protect 4096 to read is accepted with the rights that it leaves, and leaves them
   protect : ((answer (one 4 4096 1 0)).value ≡ 1) × ((answer (one 4 4096 1 0)).after.lent.rights ≡ 1 ∷ 0 ∷ 0 ∷ 0 ∷ 0 ∷ 4 ∷ [])
   -- the load behind the store finds the byte that was stored; without the store it would find another
-  loaded : answers_in (λ o. o.value) (state_of two) (rest_of two).1.0.now 2 (0 ∷ 0 ∷ []) ≡ 0 ∷ 65 ∷ []
-  pretended : (performed (state_of two) (instruction_at (rest_of two).1.0.now 1)).value ≡ 0
+  loaded : answers_in (λ o. o.value) (state_of two) (own two).0.now 2 (0 ∷ 0 ∷ []) ≡ 0 ∷ 65 ∷ []
+  pretended : (performed (state_of two) (instruction_at (own two).0.now 1)).value ≡ 0
   -- the second protect leaves other rights than the first
   first : (after_one twice).lent.rights ≡ 1 ∷ 0 ∷ 0 ∷ 0 ∷ 0 ∷ 4 ∷ []
-  both : (after_first (state_of twice) (rest_of twice).1.0.now 2).lent.rights ≡ 0 ∷ 0 ∷ 0 ∷ 0 ∷ 0 ∷ 4 ∷ []
+  both : (after_first (state_of twice) (own twice).0.now 2).lent.rights ≡ 0 ∷ 0 ∷ 0 ∷ 0 ∷ 0 ∷ 4 ∷ []
 
 cases : Cases
 unfolding every count lowest_from lowest in_bounds right_lengths part_of larger join sound_grant holders after_cell_before sound_cell sound_tables lowest_unsound first_failing answered well_sized known_divisions no_operands byte_operand division_operand rights_operand grant_operands source_operand formed covers covering_cell covered valid place word_in whole_word grant_names other_holder nobody_else needs effect registers_after value_of kind_checks checks done_at done performed room_for after_first answers_in
@@ -144,10 +149,10 @@ cases =
 -- f answers and g tells the parameters at exit, as the contract of `execute` says, whatever is passed
 module _ (κs : _) (f : One → Reply) (g : One → One) (met : (a : One) → execute-reads.Post κs a (f a) (g a)) where
   number_met : (a : One) → (f a).number ≡ (answer a).number
-  number_met a = ap (λ (o : Outcome). o.number) (met a)
+  number_met a = ap (λ (o : Outcome). o.number) (met a).0
 
   value_met : (a : One) → (f a).value ≡ (answer a).value
-  value_met a = ap (λ (o : Outcome). o.value) (met a)
+  value_met a = ap (λ (o : Outcome). o.value) (met a).0
 
   -- it does not refuse everything
   pub refuses_not_all : ((a : One) → (f a).number ≢ 0) → ⊥
@@ -167,29 +172,29 @@ module _ (κs : _) (f : One → Reply) (g : One → One) (met : (a : One) → ex
       omega arith
 
   -- it touches its tables
-  pub tables_change : ((a : One) → lists a (g a) ≡ lent_all a) → ⊥
+  pub tables_change : ((a : One) → lists (g a) ≡ lists a) → ⊥
   tables_change never =
       let a = one 4 4096 1 0 in
       let kept : ◌≡◌ {A = ℕ} 1 3 = ap (λ (l : List ℕ). get_or l 0 0)
-      (sym cases.protect.1 ∙ ap (λ (o : Outcome). o.after.lent.rights) (sym (met a)) ∙ ap (λ (t : Tables). t.rights) (never a)) in
+      (sym cases.protect.1 ∙ ap (λ (o : Outcome). o.after.lent.rights) (sym (met a).0) ∙ ap (λ (t : Tables). t.rights) (never a)) in
       omega arith
 
 -- ---- whoever meets the contract of `execute_all`
 
 module _ (κs : _) (f : Many → Registers) (g : Many → Many) (met : (a : Many) → execute-all-reads.Post κs a (f a) (g a)) where
   -- where there are two instructions, it does not always leave the tables as the first did
-  pub tables_go_on : ((a : Many) → 2 ≤ room a → lists a (g a) ≡ (after_one a).lent) → ⊥
+  pub tables_go_on : ((a : Many) → 2 ≤ room a → lists (g a) ≡ (after_one a).lent) → ⊥
   unfolding room_for
   tables_go_on stops =
       let same : ◌≡◌ {A = ℕ} 0 1 = ap (λ (l : List ℕ). get_or l 0 0)
-      (sym cases.both ∙ ap (λ (o : Ran). o.after.lent.rights) (sym (met twice)) ∙ ap (λ (t : Tables). t.rights) (stops twice (omega arith)) ∙ cases.first) in
+      (sym cases.both ∙ ap (λ (o : Ran). o.after.lent.rights) (sym (met twice).0) ∙ ap (λ (t : Tables). t.rights) (stops twice (omega arith)) ∙ cases.first) in
       omega arith
 
   -- nor is the second always answered as if the first had not been run
   pub answers_go_on : ((a : Many) → 2 ≤ room a
-      → get_or (answers (g a)).1 1 0 ≡ (performed (state_of a) (instruction_at (rest_of a).1.0.now 1)).value) → ⊥
+      → get_or (answers (g a)).1 1 0 ≡ (performed (state_of a) (instruction_at (own a).0.now 1)).value) → ⊥
   unfolding room_for
   answers_go_on pretends =
-      let same : ◌≡◌ {A = ℕ} 65 0 = ap (λ (l : List ℕ). get_or l 1 0) (sym cases.loaded ∙ ap (λ (o : Ran). o.values) (sym (met two)))
+      let same : ◌≡◌ {A = ℕ} 65 0 = ap (λ (l : List ℕ). get_or l 1 0) (sym cases.loaded ∙ ap (λ (o : Ran). o.values) (sym (met two).0))
       ∙ pretends two (omega arith) ∙ cases.pretended in
       omega arith

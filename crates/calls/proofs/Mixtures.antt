@@ -6,16 +6,20 @@ use mathlib.Core.List.{List, [], ◌∷◌, ◌++◌}
 use mathlib.Core.Logic.{◌≢◌}
 use mathlib.Core.Bool.{true}
 use lib.ListN.{length, get_or}
-use Rattle.rules.specs.Numbers.{State, state}
-use Rattle.rules.specs.Lent.{Slice, MutSlice, Passed, lent_all, lent_block, lent_view, rest_of}
+use Rattle.std.specs.Prelude.{Result}
+use Rattle.std.specs.Borrow.{MutBor}
+use Rattle.rules.specs.Numbers.{Tables, State, state}
+use Rattle.rules.specs.Lent.{Slice, MutSlice, lent, lent_mut}
 use Rattle.rules.specs.Refusals.{Outcome}
 use Rattle.rules.specs.Calls.{Action, instruction, block_write, read_view, performed, outcomes, after_all}
 use Rattle.rules.specs.declared.Registers.{Registers}
-use Rattle.rules.specs.declared.Answer.{Answer}
+use Rattle.rules.specs.declared.Refusal.{Refusal}
+use Rattle.rules.specs.declared.Tables.{Tables as LentTables}
+use Rattle.rules.specs.declared.TablesMut.{TablesMut as LentTablesMut}
 use Rattle.monitor.specs.Runs.{instruction_at, room_in, after_first, Ran}
 use Rattle.monitor.specs.declared.reply.Reply.{Reply}
 use Rattle.monitor.specs.declared.reply.ViewPlace.{ViewPlace}
-use Rattle.monitor.proofs.Unique.{lists, block_lists}
+use Rattle.monitor.proofs.Unique.{lists}
 use Rattle.monitor.proofs.execute.Reads as execute-reads
 use Rattle.monitor.proofs.execute_all.Reads as execute-all-reads
 use Rattle.monitor.proofs.write_block.Reads as write-block-reads
@@ -24,33 +28,46 @@ use Rattle.monitor.proofs.view_answer.Reads as view-answer-reads
 use Rattle.monitor.proofs.view_place.Reads as view-place-reads
 use Rattle.history.specs.History.{Right, Held}
 use Rattle.history.specs.Shown.{holds_in, shown, LastWritten}
-use Rattle.calls.proofs.Contracts.{view_kept}
+use Rattle.calls.proofs.Contracts.{Given, own, view_kept}
 use Rattle.history.proofs.Sequences.{Called, called_run, called_history, called_bytes, steps, after_more}
 
 -- ---- what a call is lent, and what it stands for
 
--- the state of a call that may write all four lists, of one that may write the memory alone, and of one that may write none;
--- the registers come first of what is passed beside M and the lists
-abbrev pub state_of : {Rest : Type 0} → Passed MutSlice MutSlice (Registers × Rest) → State
-state_of a = state (lent_all a) (rest_of a).0
+-- the arguments of a call that may write all four lists, of one that may write the memory alone, and of one that may write none
+abbrev pub GivenAll : (Own : Type 0) → Type 0
+GivenAll Own = Given (MutBor LentTablesMut) MutSlice Own
 
-abbrev pub block_state_of : {Rest : Type 0} → Passed Slice MutSlice (Registers × Rest) → State
-block_state_of a = state (lent_block a) (rest_of a).0
+abbrev pub GivenBlock : (Own : Type 0) → Type 0
+GivenBlock Own = Given LentTables MutSlice Own
 
-abbrev pub view_state_of : {Rest : Type 0} → Passed Slice Slice (Registers × Rest) → State
-view_state_of a = state (lent_view a) (rest_of a).0
+abbrev pub GivenView : (Own : Type 0) → Type 0
+GivenView Own = Given LentTables Slice Own
+
+-- the state of each
+abbrev pub state_of : {Own : Type 0} → GivenAll Own → State
+state_of a = state (lent_mut a.0.now a.1.0.now) a.1.1.0
+
+abbrev pub block_state_of : {Own : Type 0} → GivenBlock Own → State
+block_state_of a = state (lent a.0 a.1.0.now) a.1.1.0
+
+abbrev pub view_state_of : {Own : Type 0} → GivenView Own → State
+view_state_of a = state (lent a.0 a.1.0.now) a.1.1.0
+
+-- the lists at exit of `write_block`, which may write the memory alone
+abbrev pub block_lists : {Own End : Type 0} → GivenBlock Own → GivenBlock End → Tables
+block_lists a s = lent a.0 s.1.0.now
 
 -- four numbers
-abbrev pub instruction_of : Passed MutSlice MutSlice (Registers × (ℕ × (ℕ × (ℕ × (ℕ × Unit {0}))))) → Action
-instruction_of a = instruction (rest_of a).1.0 (rest_of a).1.1.0 (rest_of a).1.1.1.0 (rest_of a).1.1.1.1.0
+abbrev pub instruction_of : GivenAll (ℕ × (ℕ × (ℕ × (ℕ × Unit {0})))) → Action
+instruction_of a = instruction (own a).0 (own a).1.0 (own a).1.1.0 (own a).1.1.1.0
 
 -- an address and a block of bytes
-abbrev pub block_of : Passed Slice MutSlice (Registers × (ℕ × (Slice × Unit {0}))) → Action
-block_of a = block_write (rest_of a).1.0 (rest_of a).1.1.0.now
+abbrev pub block_of : GivenBlock (ℕ × (Slice × Unit {0})) → Action
+block_of a = block_write (own a).0 (own a).1.0.now
 
 -- an address and a length
-abbrev pub view_of : Passed Slice Slice (Registers × (ℕ × (ℕ × Unit {0}))) → Action
-view_of a = read_view (rest_of a).1.0 (rest_of a).1.1.0
+abbrev pub view_of : GivenView (ℕ × (ℕ × Unit {0})) → Action
+view_of a = read_view (own a).0 (own a).1.0
 
 -- the first k instructions of a list of numbers
 unfoldable pub first_of : List ℕ → (k : ℕ) → List Action
@@ -58,10 +75,10 @@ first_of l zero = []
 first_of l (suc k) = first_of l k ++ (instruction_at l k ∷ [])
 
 -- a list of instructions and two lists of answers: as many as are whole and have room for both
-abbrev pub list_of : Passed MutSlice MutSlice (Registers × (Slice × (MutSlice × (MutSlice × Unit {0})))) → List Action
+abbrev pub list_of : GivenAll (Slice × (MutSlice × (MutSlice × Unit {0}))) → List Action
 list_of a =
-    let l = (rest_of a).1.0.now in
-    first_of l (room_in l (rest_of a).1.1.0.now (rest_of a).1.1.1.0.now)
+    let l = (own a).0.now in
+    first_of l (room_in l (own a).1.0.now (own a).1.1.0.now)
 
 -- ---- one call
 
@@ -69,13 +86,13 @@ list_of a =
 -- Of what a view is lent nothing can be written, so all is passed on as it was
 pub data Call : State → List Action → State → Type 0 where
   execute_call : (κs : _) (a : _) (r : Reply) (b : _) → execute-reads.Post κs a r b
-      → Call (state_of a) (instruction_of a ∷ []) (state (lists a b) r.registers)
+      → Call (state_of a) (instruction_of a ∷ []) (state (lists b) r.registers)
   execute_all_call : (κs : _) (a : _) (r : Registers) (b : _) → execute-all-reads.Post κs a r b
-      → Call (state_of a) (list_of a) (state (lists a b) r)
+      → Call (state_of a) (list_of a) (state (lists b) r)
   write_block_call : (κs : _) (a : _) (r : Reply) (b : _) → write-block-reads.Post κs a r b
       → Call (block_state_of a) (block_of a ∷ []) (state (block_lists a b) r.registers)
   view_call : (κs : _) (a : _) (r : Slice) → view-reads.Post κs a r a → Call (view_state_of a) (view_of a ∷ []) (view_state_of a)
-  view_answer_call : (κs : _) (a : _) (r : Answer) → view-answer-reads.Post κs a r a → Call (view_state_of a) (view_of a ∷ []) (view_state_of a)
+  view_answer_call : (κs : _) (a : _) (r : Result Unit Refusal) → view-answer-reads.Post κs a r a → Call (view_state_of a) (view_of a ∷ []) (view_state_of a)
   view_place_call : (κs : _) (a : _) (r : ViewPlace) → view-place-reads.Post κs a r a → Call (view_state_of a) (view_of a ∷ []) (view_state_of a)
 
 -- the state after the first k instructions of a list
@@ -88,14 +105,14 @@ list_end s l (suc k) =
 -- what its contract says of the state: that it is the definition's
 pub call_end : {s u : State} {acts : List Action} → Call s acts u → u ≡ after_all s acts
 unfolding after_all
-call_end (execute_call κs a r b e) = ap (λ (o : Outcome). o.after) e
+call_end (execute_call κs a r b e) = ap (λ (o : Outcome). o.after) e.0
 call_end (execute_all_call κs a r b e) =
-    let l = (rest_of a).1.0.now in
-    ap (λ (o : Ran). o.after) e ∙ list_end (state_of a) l (room_in l (rest_of a).1.1.0.now (rest_of a).1.1.1.0.now)
+    let l = (own a).0.now in
+    ap (λ (o : Ran). o.after) e.0 ∙ list_end (state_of a) l (room_in l (own a).1.0.now (own a).1.1.0.now)
 call_end (write_block_call κs a r b e) = ap (λ (o : Outcome). o.after) e
-call_end (view_call κs a r e) = sym (view_kept (view_state_of a) (rest_of a).1.0 (rest_of a).1.1.0)
-call_end (view_answer_call κs a r e) = sym (view_kept (view_state_of a) (rest_of a).1.0 (rest_of a).1.1.0)
-call_end (view_place_call κs a r e) = sym (view_kept (view_state_of a) (rest_of a).1.0 (rest_of a).1.1.0)
+call_end (view_call κs a r e) = sym (view_kept (view_state_of a) (own a).0 (own a).1.0)
+call_end (view_answer_call κs a r e) = sym (view_kept (view_state_of a) (own a).0 (own a).1.0)
+call_end (view_place_call κs a r e) = sym (view_kept (view_state_of a) (own a).0 (own a).1.0)
 
 -- so it is a run of the definition, and demand 3 holds of it by itself: of the rights held where it returns, and of the bytes
 -- that differ from those that it was lent
