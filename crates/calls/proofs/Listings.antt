@@ -28,7 +28,8 @@ use Rattle.listing.specs.Output.{line1, lines_of, answer_line, lines_after}
 use Rattle.listing.specs.Reading.{output_room}
 use Rattle.listing.proofs.LinesBack.{row3}
 use Rattle.listing.proofs.Back.{rights_at}
-use Rattle.listing.proofs.RunBack.{first_shape, before_answer, before_rights, run_written, answer_back, rights_written_back}
+use Rattle.monitor.proofs.Running.{first_shape}
+use Rattle.listing.proofs.RunBack.{before_answer, before_rights, run_written, answer_back, rights_written_back}
 use Rattle.listing.proofs.cellrun.Reads as cellrun-reads
 use Rattle.calls.proofs.Lists.{list_run, list_history}
 

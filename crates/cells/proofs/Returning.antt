@@ -1,6 +1,6 @@
 -- A call writes through the tables that it is lent. Where these hold the caller's lists at its end, what it ensures of them
 -- holds of the caller's lists: M and the cells are as they were, whatever the call is. Assumes nothing.
-use Prim.Native.Nat.{ℕ, zero, suc}
+use Prim.Native.Nat.{ℕ}
 use mathlib.Core.List.{List}
 use mathlib.Core.Path.{◌≡◌, refl, sym, ap, ◌∙◌, subst}
 use Rattle.rules.specs.Numbers.{Tables, tables, State, state}
@@ -8,17 +8,12 @@ use Rattle.rules.specs.Lent.{lent_mut}
 use Rattle.rules.specs.Calls.{Action, performed}
 use Rattle.rules.specs.declared.Registers.{Registers}
 use Rattle.rules.specs.declared.TablesMut.{TablesMut as LentTablesMut}
-use Rattle.rules.proofs.Kept.{SameShape, shape_same, shape_then}
+use Rattle.rules.proofs.Kept.{SameShape}
 use Rattle.rules.proofs.Laws.{shape_kept}
 use Rattle.monitor.specs.Answers.{came}
-use Rattle.monitor.specs.Runs.{instruction_at, after_first, run_all, room_in, ran}
+use Rattle.monitor.proofs.Running.{first_shape}
+use Rattle.monitor.specs.Runs.{run_all, room_in, ran}
 use Rattle.monitor.specs.declared.reply.Reply.{Reply}
-
--- instructions in turn keep the shape of the tables
-first_shape : (s : State) (l : List ℕ) (k : ℕ) → SameShape s.lent (after_first s l k).lent
-unfolding after_first
-first_shape s l zero = shape_same s.lent
-first_shape s l (suc k) = shape_then (first_shape s l k) (shape_kept (after_first s l k) (instruction_at l k))
 
 -- t is what a call left of the tables of s; k, r, g and b are the caller's marks, rights, grants and memory after it
 module _ (s : State) (t : LentTablesMut) (k r g b : List ℕ) where

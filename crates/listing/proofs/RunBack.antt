@@ -25,7 +25,8 @@ use Rattle.listing.proofs.Written.{lines_next}
 use Rattle.listing.proofs.EntriesBack.{behind}
 use Rattle.listing.proofs.LinesBack.{row3, line3_back, right_first}
 use Rattle.listing.proofs.Back.{rights_back, grants_no_right, rights_at}
-use Rattle.listing.proofs.Whole.{first_shape, written}
+use Rattle.listing.proofs.Whole.{written}
+use Rattle.monitor.proofs.Running.{first_shape}
 use Rattle.listing.proofs.Sized.{listing_loaded}
 
 -- ---- the state after the first k instructions

@@ -15,9 +15,9 @@ use Rattle.text.proofs.Writing.{put_then}
 use Rattle.text.proofs.Room.{put_long}
 use Rattle.rules.specs.Numbers.{Tables, State, state, tables}
 use Rattle.rules.specs.Refusals.{Outcome}
-use Rattle.rules.proofs.Kept.{SameShape, shape_same, shape_then}
-use Rattle.rules.proofs.Laws.{shape_kept}
-use Rattle.monitor.specs.Runs.{instruction_at, room_for, room_in, after_first, answer_at, answers_in, Ran, ran, run_all}
+use Rattle.rules.proofs.Kept.{SameShape}
+use Rattle.monitor.proofs.Running.{first_shape}
+use Rattle.monitor.specs.Runs.{room_for, room_in, after_first, answer_at, answers_in, Ran, ran, run_all}
 use Rattle.listing.specs.Words.{bad_word, cells_word}
 use Rattle.listing.specs.Lines.{field, head_row, size_row, right_at, grant_at, byte_at, core_row, registers_in}
 use Rattle.listing.specs.Listing.{run, zeros, Cells, entries_at, Dos, dos_at, cells_at, from_dos, from_core, from_rights, from_size, from_head, listing_in}
@@ -65,12 +65,6 @@ pub filled_long : {l : List ℕ} (n : ℕ) → l ≡ zeros n → length l ≡ n
 filled_long n e = ap (length {A = ℕ}) e ∙ length-replicate n 0
 
 -- ---- the shape of the tables through a run
-
--- M, first, last and offset stay, and every list keeps its length
-pub first_shape : (s : State) (l : List ℕ) (k : ℕ) → SameShape s.lent (after_first s l k).lent
-unfolding after_first
-first_shape s l zero = shape_same s.lent
-first_shape s l (suc k) = shape_then (first_shape s l k) (shape_kept (after_first s l k) (instruction_at l k))
 
 pub ran_shape : (s u : State) (l ns₀ vs₀ : List ℕ) {ns vs : List ℕ} → ran u ns vs ≡ run_all s l ns₀ vs₀ → SameShape s.lent u.lent
 ran_shape s u l ns₀ vs₀ e =

@@ -95,6 +95,14 @@ pub ran_as : (s : State) (l numbers values : List ℕ) {k n : ℕ} {r : Ran} →
     → r ≡ run_first s l k numbers values → r ≡ run_first s l n numbers values
 ran_as s l numbers values {r = r} e = subst (λ (j : ℕ). r ≡ run_first s l j numbers values) e
 
+-- ---- the shape of the tables
+
+-- M, first, last and offset stay, and every list keeps its length
+pub first_shape : (s : State) (l : List ℕ) (k : ℕ) → SameShape s.lent (after_first s l k).lent
+unfolding after_first
+first_shape s l zero = shape_same s.lent
+first_shape s l (suc k) = shape_then (first_shape s l k) (shape_kept (after_first s l k) (instruction_at l k))
+
 -- ---- where check 1, 2 or 3 fails
 
 module _ (s : State) (a : Answer) (e : a ≡ first_answer s) (h : a.number ≡ 0 → ⊥) (l : List ℕ) where
