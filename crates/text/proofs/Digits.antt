@@ -11,7 +11,7 @@ use lib.Seq.{drop-cons, get_or-drop}
 use lib.Dec.{ltb}
 use Rattle.std.proofs.Common.{Some}
 use Rattle.std.proofs.lemmas.Option.{same_Some, none-some}
-use borrow.Author.Tests.{le-leb, lt-leb}
+use borrow.Author.Tests.{le-leb}
 use Rattle.text.specs.Number.{peek_at, byte_or_none, is_digit, digits_in, value_from}
 use Rattle.text.proofs.Cases.{by_test, below_or_not}
 

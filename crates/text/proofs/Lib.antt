@@ -1,5 +1,5 @@
--- Laws, from the byte to the line: read, written, and read back. A line is read by itself (`OneLine`). Each public function has
--- one outcome (`Unique`).
+-- Laws, from the byte to the line: read, written, and read back. A line is read by itself (`OneLine`). What is answered tells all
+-- that the definition does (`Told`). Each public function has one outcome (`Unique`).
 pub mod Cases
 pub mod Digits
 pub mod Numbers
@@ -12,5 +12,6 @@ pub mod Walks
 pub mod Writing
 pub mod Room
 pub mod Round
+pub mod Told
 pub mod Unique
 pub mod Examples
