@@ -99,7 +99,7 @@ contract_met κs a =
             (tables (sym h.divisions i) (sym h.firsts i) (sym h.lasts i) (sym h.offsets i) t.marks t.rights t.grants t.memory)
             (answer a).after.registers;
       },
-      record { marks = refl; rights = refl; grants = refl },
+      record { divisions = refl; first = refl; last = refl; offset = refl; marks = refl; rights = refl; grants = refl },
     )
 
 -- ---- a list of instructions

@@ -41,10 +41,19 @@ room_values i n v = omega arith
 -- ---- the lists stay those that were lent
 
 pub same_lists : {t : LentTablesMut} → SameLists t t
-same_lists = record { marks = refl; rights = refl; grants = refl }
+same_lists = record { divisions = refl; first = refl; last = refl; offset = refl; marks = refl; rights = refl; grants = refl }
 
 pub same_then : {t u v : LentTablesMut} → SameLists t u → SameLists u v → SameLists t v
-same_then a b = record { marks = b.marks ∙ a.marks; rights = b.rights ∙ a.rights; grants = b.grants ∙ a.grants }
+same_then a b =
+    record {
+      divisions = b.divisions ∙ a.divisions;
+      first = b.first ∙ a.first;
+      last = b.last ∙ a.last;
+      offset = b.offset ∙ a.offset;
+      marks = b.marks ∙ a.marks;
+      rights = b.rights ∙ a.rights;
+      grants = b.grants ∙ a.grants;
+    }
 
 -- ---- a turn
 

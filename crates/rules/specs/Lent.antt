@@ -35,8 +35,13 @@ lent t memory = tables t.m t.first.now t.last.now t.offset.now t.marks.now t.rig
 abbrev pub lent_mut : LentTablesMut → (memory : List ℕ) → Tables
 lent_mut t memory = tables t.m t.first.now t.last.now t.offset.now t.marks.now t.rights.now t.grants.now memory
 
--- the lists that a call writes are those that it was lent: each reference keeps the name under which a proof tracks it
+-- M and the lists that a call leaves are those that it was lent: what is read is the same, and each reference that is written
+-- keeps the name under which a proof tracks its list
 pub record SameLists (before after : LentTablesMut) : Type 0 where
+  pub divisions : after.m ≡ before.m
+  pub first : after.first ≡ before.first
+  pub last : after.last ≡ before.last
+  pub offset : after.offset ≡ before.offset
   pub marks : after.marks.ghost_name ≡ before.marks.ghost_name
   pub rights : after.rights.ghost_name ≡ before.rights.ghost_name
   pub grants : after.grants.ghost_name ≡ before.grants.ghost_name
