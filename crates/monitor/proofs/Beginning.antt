@@ -5,9 +5,8 @@ use mathlib.Core.List.{[]}
 use mathlib.Core.Bool.{Bool, true, false, cond}
 use native.Mathlib.Omega.{arith}
 use Rattle.rules.specs.Numbers.{State}
-use Rattle.rules.specs.Refusals.{no_such_division, ◌unless◌, first_failing, refused_value, Outcome, table_checks, first_checks, known_divisions}
+use Rattle.rules.specs.Refusals.{Answer, no_such_division, ◌unless◌, first_failing, refused_value, Outcome, table_checks, first_checks, known_divisions}
 use Rattle.rules.specs.Calls.{Action, performed}
-use Rattle.rules.specs.declared.Answer.{Answer}
 use Rattle.rules.proofs.Checks.{AllHold, accept_all}
 use Rattle.rules.proofs.Kept.{Begun, begun}
 use Rattle.rules.proofs.Performing.{performed_first}

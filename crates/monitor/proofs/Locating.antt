@@ -11,7 +11,7 @@ use lib.Seq.{take-suc, take-suc-set, take_all, drop-drop}
 use lib.Dec.{eqb}
 use borrow.Author.Tests.{lt-leb, ne_eqb, eqb-true, eqb-false}
 use Rattle.rules.specs.Numbers.{State, state, L, read, write, part_of, last_of, mark_of, held}
-use Rattle.rules.specs.Refusals.{number_of, refused_with, not_covered, not_valid, not_whole, right_missing, Check, ◌unless◌, first_failing, Outcome, accepted, refused_value, first_checks}
+use Rattle.rules.specs.Refusals.{Answer, number_of, refused_with, not_covered, not_valid, not_whole, right_missing, Check, ◌unless◌, first_failing, Outcome, accepted, refused_value, first_checks}
 use Rattle.rules.specs.Instructions.{cell_at, covered, valid, place, with_memory}
 use Rattle.rules.specs.Blocks.{within_cell, block_needs, block_written, part_viewed}
 use Rattle.rules.specs.Calls.{Action, block_write, read_view, block_checks, checks, done, performed}
@@ -24,7 +24,6 @@ use Rattle.monitor.specs.Leaves.{Located, LocatedAt, Refused, located_by, locate
 use Rattle.monitor.proofs.Searching.{FoundAt}
 use Rattle.monitor.specs.Answers.{view_place_in}
 use Rattle.monitor.specs.Ready.{checks_answer, first_answer}
-use Rattle.rules.specs.declared.Answer.{Answer}
 use Rattle.rules.specs.declared.Refusal.{Refusal}
 use Rattle.rules.specs.declared.Refusal.TheVariants.{NotCovered}
 use Rattle.rules.proofs.Refusing.{some_number, no_value}

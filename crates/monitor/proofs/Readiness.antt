@@ -10,7 +10,7 @@ use borrow.Author.Tests.{leb-true, ltb-true}
 use Rattle.rules.specs.Numbers.{Tables, state, N, L, first_of, last_of, offset_of, entry, held}
 use Rattle.rules.specs.Sound.{after_cell_before}
 use Rattle.rules.specs.Instructions.{address_of, whole_word, other_holder, needs}
-use Rattle.rules.specs.Refusals.{first_failing}
+use Rattle.rules.specs.Refusals.{Answer, first_failing}
 use Rattle.rules.specs.declared.Registers.{Registers}
 use Rattle.rules.specs.declared.Instruction.{Instruction}
 use Rattle.rules.specs.declared.Instruction.TheVariants.{Switch, Receive}
@@ -20,7 +20,6 @@ use Rattle.rules.proofs.Sizes.{Sized, row_below, entry_below}
 use Rattle.rules.proofs.SoundCells.{SoundCell, AllSound}
 use Rattle.rules.proofs.Kept.{Covering}
 use Rattle.rules.proofs.Operands.{Other}
-use Rattle.rules.specs.declared.Answer.{Answer}
 use Rattle.monitor.specs.Ready.{Ready, first_answer}
 use Rattle.monitor.specs.Leaves.{CellsRise}
 

@@ -11,11 +11,10 @@ use lib.ListN.{length, get_or, set, length-set}
 use Rattle.rules.specs.Lent.{SameLists}
 use Rattle.rules.specs.declared.TablesMut.{TablesMut as LentTablesMut}
 use Rattle.rules.specs.Numbers.{Tables, State, state}
-use Rattle.rules.specs.Refusals.{Outcome}
+use Rattle.rules.specs.Refusals.{Answer, Outcome}
 use Rattle.rules.specs.Instructions.{Formed, well_formed, ill_formed}
 use Rattle.rules.specs.Calls.{instruction, formed_in, instruction_done, done_at, done, performed}
 use Rattle.rules.specs.declared.Registers.{Registers}
-use Rattle.rules.specs.declared.Answer.{Answer}
 use Rattle.rules.proofs.Kept.{Begun, SameShape, shape_same, shape_then}
 use Rattle.rules.proofs.Laws.{by_outcome, begun_kept, shape_kept}
 use Rattle.monitor.specs.Answers.{came}

@@ -1,10 +1,9 @@
 -- What the public calls hand back, in the rules' words: what their contracts are said with.
 use Rattle.std.specs.Prelude.{ℕ, [], cond, eqb}
 use Rattle.rules.specs.Numbers.{Tables, State, state}
-use Rattle.rules.specs.Refusals.{Outcome}
+use Rattle.rules.specs.Refusals.{Answer, Outcome}
 use Rattle.rules.specs.Instructions.{cell_at, place}
 use Rattle.rules.specs.Calls.{read_view, performed}
-use Rattle.rules.specs.declared.Answer.{Answer}
 use Rattle.monitor.specs.declared.reply.Reply.{Reply}
 use Rattle.monitor.specs.declared.reply.ViewPlace.{ViewPlace}
 

@@ -1,11 +1,10 @@
 -- What the monitor's inner functions answer, in the rules' words. No public contract cites this.
 use Rattle.std.specs.Prelude.{ℕ, zero, suc, ◌≤◌, ◌<◌, ◌≡◌, List, ◌++◌, cond, length, get_or, set, ltb, eqb, Option, Some, None, Result, Ok, Err}
 use Rattle.rules.specs.Numbers.{State}
-use Rattle.rules.specs.Refusals.{Check, first_failing, first_checks, refused_with}
+use Rattle.rules.specs.Refusals.{Answer, Check, first_failing, first_checks, refused_with}
 use Rattle.rules.specs.Calls.{block_checks}
 use Rattle.rules.specs.Instructions.{covering_cell, cell_at, place, other_holder}
 use Rattle.monitor.specs.Ready.{checks_answer}
-use Rattle.rules.specs.declared.Answer.{Answer}
 use Rattle.rules.specs.declared.Refusal.{Refusal}
 
 -- as many lasts as firsts, and each cell above the cell before it: what soundness says of the addresses

@@ -1,10 +1,9 @@
 -- What the inner functions have been told, and what they answer. No public contract cites this.
 use Rattle.std.specs.Prelude.{ℕ, List, [], Bool, cond, Result, Ok, Err}
 use Rattle.rules.specs.Numbers.{Tables, State, state}
-use Rattle.rules.specs.Refusals.{number_of, value_with, Check, Outcome, accepted, answered, first_failing, first_checks, refused_value}
+use Rattle.rules.specs.Refusals.{Answer, number_of, value_with, Check, Outcome, accepted, answered, first_failing, first_checks, refused_value}
 use Rattle.rules.specs.Instructions.{address_of}
 use Rattle.rules.specs.Calls.{kind_checks, kind_done}
-use Rattle.rules.specs.declared.Answer.{Answer}
 use Rattle.rules.specs.declared.Instruction.{Instruction}
 use Rattle.rules.specs.declared.Refusal.{Refusal}
 use Rattle.rules.specs.declared.Registers.{Registers}

@@ -1,6 +1,5 @@
 -- Document 01, "The refusal list".
 use Rattle.std.specs.Prelude.{ℕ, List, [], ◌∷◌, ◌++◌, Bool, cond, ◌&&◌, ltb, eqb, Result, Ok, Err}
-use Rattle.rules.specs.declared.Answer.{Answer}
 use Rattle.rules.specs.declared.Refusal.{Refusal}
 use Rattle.rules.specs.declared.Refusal.TheVariants.{OutOfBounds, Unsound, NoSuchDivision, NoSuchInstruction, BadOperand, NotCovered, NotValid, NotWhole, RightMissing, NoGrant, OtherHolds, NotEntry, SameRights}
 use Rattle.rules.specs.Numbers.{Tables, State, N, L, in_bounds, right_lengths}
@@ -91,6 +90,11 @@ value_with NoGrant = 0
 value_with OtherHolds = 0
 value_with NotEntry = 0
 value_with SameRights = 0
+
+-- a number and the value that goes with it
+pub record Answer : Type 0 where
+  pub number : ℕ
+  pub value : ℕ
 
 abbrev pub refused_with : Refusal → Answer
 refused_with r = record { number = number_of r; value = value_with r }

@@ -5,7 +5,7 @@
 ghost use Rattle.std.specs.Prelude.{◌≡◌, ◌%◌};
 ghost use Rattle.rules.specs.Lent.{lent, lent_mut};
 ghost use Rattle.rules.specs.Numbers.{part_of, join, switched};
-ghost use Rattle.rules.specs.Refusals.{number_of, value_with, refused_with};
+ghost use Rattle.rules.specs.Refusals.{number_of, value_with};
 ghost use Rattle.rules.specs.Instructions.{no_operands, byte_operand, division_operand, rights_operand, grant_operands, source_operand, address_of, ranged, beside, kept, decoded};
 
 // ---- the refusal list
@@ -137,27 +137,6 @@ impl Registers {
             current: division,
             caller: self.current,
             place: address,
-        }
-    }
-}
-
-// ---- answers
-
-// A number of the refusal list, 0 for acceptance, and the value that goes with it.
-#[repr(C)]
-#[derive(Clone, Copy, PartialEq, Eq)]
-pub struct Answer {
-    pub number: u32,
-    pub value: u32,
-}
-
-impl From<Refusal> for Answer {
-    ghost from_gives = { λ refusal answer. answer ≡ refused_with refusal };
-
-    fn from(refusal: Refusal) -> Answer {
-        Answer {
-            number: refusal.number(),
-            value: refusal.value(),
         }
     }
 }

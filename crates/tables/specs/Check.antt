@@ -2,8 +2,7 @@
 use Rattle.std.specs.Prelude.{ℕ, ◌+◌, ◌*◌, List, Bool, not, get_or, leb}
 use Rattle.rules.specs.Below.{every}
 use Rattle.rules.specs.Numbers.{Tables}
-use Rattle.rules.specs.Refusals.{first_failing, table_checks, refused_value}
-use Rattle.rules.specs.declared.Answer.{Answer}
+use Rattle.rules.specs.Refusals.{Answer, first_failing, table_checks, refused_value}
 
 unfoldable pub tables_checked : Tables → Answer
 tables_checked t =
