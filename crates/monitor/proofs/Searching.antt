@@ -48,6 +48,13 @@ module _ (first last : List ℕ) (rise : CellsRise first last) where
       omega (arith, rise.rising c (omega arith), rise.apart c l))
       (λ e. rw e (rise.apart c l))
 
+  -- so its addresses are at least its number
+  number_le : (c : ℕ) → c < length first → c ≤ get_or last c 0
+  number_le zero l = omega arith
+  number_le (suc c) l =
+      let v : c ≤ get_or last c 0 = number_le c (omega arith) in
+      omega (arith, rise.apart c l, rise.rising (suc c) l)
+
   module _ (x i n : ℕ) (e : Ended last x i n) (h : i < length first) where
     -- where a cell ends below x, all before it do
     all_ended : get_or last i 0 < x → n ≡ i
@@ -93,6 +100,14 @@ module _ (first last : List ℕ) (rise : CellsRise first last) where
   ended_all x =
       subst (λ (l : List ℕ). Ended last x (length first) (count_by (λ e. ltb e x) l)) (take_all (length first) last (omega (arith, rise.lasts)))
       (ended_counted x (length first) (omega arith))
+
+  -- no more end below x than there are addresses below it
+  pub ended_few : (x : ℕ) → count_by (λ e. ltb e x) last ≤ x
+  ended_few x = go (count_by (λ e. ltb e x) last) (ended_all x)
+    where
+      go : (n : ℕ) → Ended last x (length first) n → n ≤ x
+      go zero e = omega arith
+      go (suc n) e = omega (arith, e.within, e.below n (omega arith), number_le n (omega (arith, e.within)))
 
   -- once all have been looked at, only the cell after them can cover x
   module _ (x c : ℕ) (e : Ended last x (length first) c) where

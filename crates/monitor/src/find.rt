@@ -1,10 +1,10 @@
 // The search for the cell that covers an address.
-ghost use Rattle.std.specs.Prelude.{◌≡◌, ◌≤◌, count_by, length, ltb};
+ghost use Rattle.std.specs.Prelude.{◌≡◌, ◌≤◌, count_by, ltb};
 ghost use Rattle.monitor.specs.Leaves.{CellsRise, found_in};
 
 // How many cells end below `x`. They are counted with no early way out, and in 32 bits, so that the loop vectorises.
 fn ended(last: &[u32], x: u32) -> u32
-    requires { length last.now ≤ 256 }
+    requires { count_by (λ end. ltb end x) last.now ≤ 4294967295 }
     ensures { result ≡ count_by (λ end. ltb end x) last.now }
 {
     last.iter().map(|end| u32::from(*end < x)).sum()
@@ -13,8 +13,7 @@ fn ended(last: &[u32], x: u32) -> u32
 // The cell that covers `x`, in tables whose cells are sound. Cells rise, so it can only be the one after those that end
 // below `x`.
 pub fn find(first: &[u32], last: &[u32], x: u32) -> Option<usize>
-    requires rise { CellsRise first.now last.now }
-    requires few { length last.now ≤ 256 }
+    requires { CellsRise first.now last.now }
     ensures { result ≡ found_in first.now last.now x }
 {
     let c = ended(last, x) as usize;

@@ -18,9 +18,7 @@ inside : (c : In_ok-c) → CellIn (lent c.args.tables c.args.memory.now) c.in_ok
 inside c = cell_in _ c.requires.sizes _ (found c).cell.cell
 
 pub find-requires : goal.find-requires
-find-requires c =
-    let b = c.requires in
-    record { rise = cells_rise _ b.sizes b.sound; few = omega (arith, b.sizes.lasts, b.sizes.within.cells) }
+find-requires c = cells_rise _ c.requires.sizes c.requires.sound
 
 pub returns-in_err-c : goal.returns-in_err-c
 returns-in_err-c c =

@@ -15,9 +15,7 @@ found : (c : In_ok-c) → FoundAt (lent_mut c.args.tables.now c.args.memory.now)
 found c = found_for _ c.args.i _ c.address.ensures c.find.ensures _ c.in_ok-c.ensures.ok_part
 
 pub find-requires : goal.find-requires
-find-requires c =
-    let b = c.requires.begun in
-    record { rise = cells_rise _ b.sizes b.sound; few = omega (arith, b.sizes.lasts, b.sizes.within.cells) }
+find-requires c = cells_rise _ c.requires.begun.sizes c.requires.begun.sound
 
 pub returns-in_err-c-clause-done : goal.returns-in_err-c-clause-done
 returns-in_err-c-clause-done c =
