@@ -4,14 +4,13 @@ use mathlib.Core.Path.{◌≡◌, refl, sym, ap, ◌∙◌}
 use mathlib.Core.List.{List, [], ◌∷◌, ◌++◌, append_assoc}
 use mathlib.Core.Bool.{Bool, false}
 use native.Mathlib.Omega.{arith}
-use native.Mathlib.Numerals.{add-one}
 use native.Mathlib.Nat.{add-sub_cancel_left}
-use lib.ListN.{length, get_or, set, take, drop}
-use lib.Seq.{take-suc, take-suc-set, take_all, drop-drop}
+use lib.ListN.{length, take, drop}
+use lib.Seq.{drop-drop}
 use lib.Dec.{eqb}
 use borrow.Author.Tests.{lt-leb, ne_eqb, eqb-true, eqb-false}
 use Rattle.rules.specs.Numbers.{State, state, L, read, write, part_of, last_of, mark_of, held}
-use Rattle.rules.specs.Refusals.{Answer, number_of, refused_with, not_covered, not_valid, not_whole, right_missing, Check, ◌unless◌, first_failing, Outcome, accepted, refused_value, first_checks}
+use Rattle.rules.specs.Refusals.{Answer, number_of, refused_with, not_valid, not_whole, right_missing, Check, ◌unless◌, first_failing, Outcome, accepted, refused_value, first_checks}
 use Rattle.rules.specs.Instructions.{cell_at, covered, valid, place, with_memory}
 use Rattle.rules.specs.Blocks.{within_cell, block_needs, block_written, part_viewed}
 use Rattle.rules.specs.Calls.{Action, block_write, read_view, block_checks, checks, done, performed}

@@ -92,9 +92,9 @@ module _ (first last : List ℕ) (rise : CellsRise first last) where
       let before = ended_counted x i (omega arith) in
       by_test (ltb (get_or last i 0) x)
       (λ q. rw (← add-one i, count_by_more_yes (λ e. ltb e x) last i 0 (omega (arith, rise.lasts)) q)
-          (ended_more x i _ before (omega arith) (ltb-true _ _ q)))
+      (ended_more x i _ before (omega arith) (ltb-true _ _ q)))
       (λ q. rw (← add-one i, count_by_more_no (λ e. ltb e x) last i 0 (omega (arith, rise.lasts)) q)
-          (ended_same x i _ before (omega arith) (ltb-false _ _ q)))
+      (ended_same x i _ before (omega arith) (ltb-false _ _ q)))
 
   pub ended_all : (x : ℕ) → Ended last x (length first) (count_by (λ e. ltb e x) last)
   ended_all x =

@@ -2,7 +2,7 @@ use native.Mathlib.Omega.{arith}
 use mathlib.Core.Path.{ap}
 use Rattle.rules.specs.Lent.{lent}
 use Rattle.monitor.specs.Leaves.{located}
-use Rattle.rules.specs.Numbers.{tables, State, state, read}
+use Rattle.rules.specs.Numbers.{state, read}
 use Rattle.rules.specs.Lent.{part_of_lent}
 use Rattle.monitor.proofs.Locating.{BlockAt, block_at, view_refuse, read_view_done, viewed_refused, viewed_at}
 use Rattle.monitor.proofs.view.Goals as goal

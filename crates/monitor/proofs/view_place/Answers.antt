@@ -1,5 +1,4 @@
 use mathlib.Core.Path.{ap}
-use Rattle.rules.specs.Lent.{lent}
 use Rattle.monitor.specs.Leaves.{located}
 use Rattle.rules.specs.Numbers.{read}
 use Rattle.monitor.proofs.Locating.{block_at, viewed_refused, viewed_at}

@@ -3,7 +3,7 @@ use lib.ListN.{length}
 use mathlib.Core.Path.{ap}
 use Rattle.rules.specs.Lent.{lent}
 use Rattle.monitor.specs.Leaves.{located}
-use Rattle.rules.specs.Numbers.{State, state, write, tables}
+use Rattle.rules.specs.Numbers.{state, write}
 use Rattle.monitor.proofs.Locating.{BlockAt, write_refuse, block_at, block_write_done}
 use Rattle.monitor.proofs.write_block.Goals as goal
 use Rattle.monitor.proofs.write_block.Goals.{In-Ok, Start}

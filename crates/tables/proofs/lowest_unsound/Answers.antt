@@ -1,50 +1,41 @@
-use mathlib.Core.Path.{◌≡◌, ◌∙◌}
-use native.Mathlib.Omega.{arith}
-use borrow.Author.Rules.{rules}
-use Rattle.rules.specs.Numbers.{tables}
-use Rattle.rules.proofs.Below.{searched_none}
-use Rattle.rules.proofs.Sizes.{sized, entries_few}
-use Rattle.tables.proofs.Laws.{Moderate, before_excess, excess_lowest, sound_later, unsound_here}
+use Rattle.std.proofs.Common.{◌≡◌, ◌<◌, false, arith, sym, ◌∙◌}
+use Rattle.rules.specs.Below.{lowest}
+use Rattle.rules.specs.Lent.{lent}
+use Rattle.rules.specs.Numbers.{N}
+use Rattle.rules.proofs.Sizes.{sized}
+use Rattle.tables.specs.Check.{excess, cell_below}
+use Rattle.tables.proofs.Laws.{rows_as_cells, cell_within, before_excess, excess_unsound_first, unsound_first}
 use Rattle.tables.proofs.lowest_unsound.Goals as goal
-use Rattle.tables.proofs.lowest_unsound.Goals.{In-loop-c, Start}
+use Rattle.tables.proofs.lowest_unsound.Goals.{After-lowest_excess-excess, In-loop-c}
 
--- the cell that is looked at
-its_cell : (c : In-loop-c) → Moderate (
-    tables c.args.m c.args.first.now c.args.last.now c.args.offset.now c.args.marks.now c.args.rights.now
-    c.args.grants.now c.args.memory.now
-    )
-    c.loop-c.c
+pub lowest_excess-excess-requires : goal.lowest_excess-excess-requires
+lowest_excess-excess-requires c = (sized _ c.requires).within.some
+
+found : (c : After-lowest_excess-excess)
+    → c.lowest_excess-excess.result
+    ≡ cell_below (N (lent c.args.tables c.args.memory.now))
+    (lowest (excess c.args.tables.m c.args.tables.rights.now) (N (lent c.args.tables c.args.memory.now)))
+found c = rows_as_cells (lent c.args.tables c.args.memory.now) _ c.requires c.lowest_excess-excess.ensures
+
+-- the cell that is looked at is one, and no right on it is above 7
+its_cell : (c : In-loop-c)
+    → (c.loop-c.c < N (lent c.args.tables c.args.memory.now)) × (excess c.args.tables.m c.args.tables.rights.now c.loop-c.c ≡ false)
 its_cell c =
-    before_excess _ _ _ c.lowest_excess-end.ensures c.loop-c-test.true
-
-pub lowest_excess-end-requires : goal.lowest_excess-end-requires
-lowest_excess-end-requires c =
-    let z = sized _ c.requires in
-    (z.rights_long, entries_few z.within)
-
-pub loop-c-init : goal.loop-c-init
-loop-c-init c = (search rules, searched_none _ _)
+    let h : c.loop-c.c < c.unwrap_or-end.result = omega arith in
+    before_excess (lent c.args.tables c.args.memory.now) _ (found (goal.at.In-loop-c c).After-lowest_excess-excess) _ (rw c.unwrap_or-end.ensures at h)
 
 pub sound_cell-requires : goal.sound_cell-requires
 sound_cell-requires c =
-    let r = its_cell c in
-    record { sized = c.requires; inside = r.inside; moderate = r.none }
+    let k = its_cell (goal.at.sound_cell-requires c).In-loop-c in
+    record { within = cell_within _ _ c.requires k.0; moderate = k.1 }
 
-pub loop-c-preserved : goal.loop-c-preserved
-loop-c-preserved c =
-    let in_loop = (goal.at.loop-c-preserved c).In-loop-c in
-    let at_cell = c.loop-c in (
-      search rules,
-      sound_later _ _ at_cell.invariant.1 (its_cell in_loop).inside c.sound_cell.ensures c.if-sound_cell.true,
-    )
-
-pub returns-else-sound_cell : goal.returns-else-sound_cell
-returns-else-sound_cell c =
-    let in_loop = (goal.at.returns-else-sound_cell c).In-loop-c in
-    let at_cell = c.loop-c in
-    unsound_here _ _ at_cell.invariant.1 (its_cell in_loop).inside c.sound_cell.ensures c.if-sound_cell.false
+pub returns-then-not-sound_cell : goal.returns-then-not-sound_cell
+returns-then-not-sound_cell c =
+    let k = its_cell (goal.at.returns-then-not-sound_cell c).In-loop-c in
+    unsound_first _ _ k.0 c.loop-c.invariant (sym c.sound_cell.ensures ∙ c.if-not-sound_cell.true)
 
 pub returns : goal.returns
 returns c =
-    let e : c.loop-c.c ≡ c.lowest_excess-end.result = omega arith in
-    excess_lowest _ _ c.loop-c.invariant.1 (e ∙ c.lowest_excess-end.ensures)
+    let e = found (goal.at.returns c).After-lowest_excess-excess in
+    excess_unsound_first _ _ e
+    (λ k h. let below : k < c.unwrap_or-end.result = rw c.unwrap_or-end.ensures h in c.loop-c.invariant k (omega arith))

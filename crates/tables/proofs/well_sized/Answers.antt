@@ -10,7 +10,7 @@ pub overflow_mul-entries : goal.overflow_mul-entries
 overflow_mul-entries c =
     let a = c.args in
     let passed = sym c.in_bounds.ensures ∙ c.if-in_bounds.true in
-    omega (arith, entries_few (bounds a.m (length a.first.now) (length a.memory.now) passed))
+    omega (arith, entries_few (bounds a.tables.m (length a.tables.first.now) (length a.memory.now) passed))
 
 pub returns-then-in_bounds : goal.returns-then-in_bounds
 unfolding well_sized right_lengths

@@ -2,11 +2,10 @@
 -- an arm's end the law of its kind turns what its callees ensure into the rules' outcome. First the arms that read or write memory,
 -- then those that write rights and grants, then the others.
 use mathlib.Core.Path.{◌≡◌, refl, ◌∙◌}
-use Prim.Native.Nat.{ℕ}
-use Rattle.rules.specs.Lent.{lent, lent_mut}
+use Rattle.rules.specs.Lent.{lent_mut}
 use Rattle.rules.specs.Numbers.{state, held}
 use Rattle.monitor.specs.Ready.{Ready}
-use Rattle.monitor.proofs.Readiness.{cell_there, row_there, own_rights, own_grant, place_there, byte_there, source_grant, seen_ready, seen_held, seen_place, seen_alone}
+use Rattle.monitor.proofs.Readiness.{row_there, own_rights, place_there, byte_there, source_grant, seen_ready, seen_held, seen_place, seen_alone}
 use Rattle.monitor.proofs.Applying.{switch_done, invalidate_done, revalidate_done, exclusive_done, fetch_there, load_done, store_done, fetch_done, grant_fits, transfer_fits, protect_done, grant_done, receive_done, transfer_done}
 use Rattle.monitor.proofs.apply.apply.Goals as goal
 use Rattle.monitor.proofs.apply.apply.Goals.{After-held_at-held}

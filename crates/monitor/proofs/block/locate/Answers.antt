@@ -1,10 +1,8 @@
-use mathlib.Core.Path.{refl, sym, ap, ◌∙◌}
+use mathlib.Core.Path.{refl}
 use native.Mathlib.Omega.{arith}
 use Rattle.std.proofs.lemmas.Result.{err_from_is_err_and}
 use Rattle.rules.specs.Lent.{lent}
 use Rattle.rules.specs.Instructions.{place}
-use Rattle.rules.specs.Refusals.{refused_with}
-use Rattle.monitor.specs.Leaves.{Refused}
 use Rattle.monitor.proofs.Readiness.{CellIn, cell_in, cells_rise, entry_in_rights}
 use Rattle.monitor.proofs.Searching.{FoundAt, found_at, nowhere_uncovered, lost}
 use Rattle.monitor.proofs.Locating.{judged, located_nowhere, located_at, located_refused}

@@ -1,6 +1,3 @@
-use Rattle.std.specs.Prelude.{count_by}
-use Prim.Native.Nat.{◌<◌}
-use mathlib.Core.Path.{◌≡◌}
 use native.Mathlib.Omega.{arith}
 use lib.ListN.{length}
 use Rattle.monitor.proofs.Searching.{Ended, ended_all, ended_few, found_here, found_nowhere}

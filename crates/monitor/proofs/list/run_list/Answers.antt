@@ -42,8 +42,7 @@ bounds-values-entry c =
 
 pub loop-k-preserved : goal.loop-k-preserved
 loop-k-preserved c =
-    let p = (goal.at.loop-k-preserved c).After-perform-answered in
-    (
+    let p = (goal.at.loop-k-preserved c).After-perform-answered in (
       turn_next (came c.perform-answered.result.reply _) c.loop-k.invariant.0 c.perform-answered.ensures.done (entry p),
       same_then c.loop-k.invariant.1 c.perform-answered.ensures.same_lists,
     )

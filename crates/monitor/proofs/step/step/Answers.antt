@@ -1,6 +1,5 @@
 -- The cell is found, the instruction judged on it and applied: each return is one law of `Stepping`.
 use mathlib.Core.Path.{refl, ◌∙◌}
-use native.Mathlib.Omega.{arith}
 use Rattle.std.proofs.lemmas.Result.{err_from_is_err_and}
 use Rattle.rules.specs.Lent.{lent_mut}
 use Rattle.rules.specs.Numbers.{state}
