@@ -18,11 +18,10 @@ use Rattle.std.specs.Iterator.Runs.{Run, ItemsMapToExactChunks, AllItemsGive, Is
 use denote.Param.Members.{Mut}
 use Rattle.std.specs.Fn.{Called}
 use Rattle.std.specs.Iterator.{Drains}
-use Rattle.std.specs.List.{fold, list_all, enumerate_from, FoldsTo, IsSubsliceAt}
+use Rattle.std.specs.List.{fold, list_all, FoldsTo, IsSubsliceAt}
 use Rattle.std.proofs.lemmas.Iterator.{YieldsList}
 use Rattle.std.proofs.lemmas.Iterator.Consumers.{fold_from_yields_List}
 use Rattle.std.proofs.lemmas.List.Folds.{fold_stays, list_all_more}
-use Rattle.std.proofs.lemmas.List.FromFn.{length-enumerate_from, get_or-enumerate_from}
 use Rattle.std.proofs.lemmas.List.Sums.{count_by_more_yes, count_by_more_no}
 use Rattle.rules.specs.Below.{every, count, lowest}
 use Rattle.rules.specs.Numbers.{Tables, N, held, grant_of}
@@ -111,27 +110,21 @@ module _ (l : List ℕ) (place m : ℕ) (h : place + m ≤ length l) where
   entry_of : (d : ℕ) → d < m → get_or (row l place m) d 0 ≡ get_or l (place + d) 0
   entry_of d k = rw (get_or-take, get_or-drop)
 
+  row_every : (p : ℕ → ℕ → Bool)
+      → every (λ d. p d (get_or (row l place m) d 0)) (length (row l place m)) ≡ every (λ d. p d (get_or l (place + d) 0)) m
+  row_every p = rw row_length (every_same _ _ m (λ d k. ap (p d) (entry_of d k)))
+
   pub row_all : (p : ℕ → Bool) → list_all p (row l place m) ≡ every (λ d. p (get_or l (place + d) 0)) m
-  row_all p = all_every p (row l place m) 0 ∙ rw row_length (every_same _ _ m (λ d k. ap p (entry_of d k)))
+  row_all p = all_every p (row l place m) 0 ∙ row_every (λ d v. p v)
 
   row_counted : (p : ℕ → Bool) → count_by p (row l place m) ≡ count (λ d. p (get_or l (place + d) 0)) m
   row_counted p = counted p (row l place m) 0 ∙ rw row_length (count_same _ _ m (λ d k. ap p (entry_of d k)))
 
-  -- the same of each entry with its division
-  row_numbered : (p : ℕ → ℕ → Bool)
-      → list_all (λ entry. p entry.0 entry.1) (enumerate_from 0 (row l place m)) ≡ every (λ d. p d (get_or l (place + d) 0)) m
-  row_numbered p =
-      all_every (λ entry. p entry.0 entry.1) (enumerate_from 0 (row l place m)) (0, 0)
-      ∙ rw (length-enumerate_from, row_length)
-      (every_same _ _ m (λ d k. let w : d < length (row l place m) = rw row_length k in
-      let q : 0 + d ≡ d = omega arith in
-      rw (get_or-enumerate_from 0 (row l place m) d (0, 0) w, q, entry_of d k)))
-
 -- what is said of the entries of a cell's row is said of the tables'
 module _ {t : Tables} {c : ℕ} (w : Within t c) where
-  pub row_grants : list_all (λ entry. sound_grant t.M entry.0 entry.1) (enumerate_from 0 (row t.grants (c * t.M) t.M))
+  pub row_grants : every (λ d. sound_grant t.M d (get_or (row t.grants (c * t.M) t.M) d 0)) (length (row t.grants (c * t.M) t.M))
       ≡ every (λ d. sound_grant t.M d (grant_of t c d)) t.M
-  row_grants = row_numbered _ _ _ w.in_grants (sound_grant t.M)
+  row_grants = row_every _ _ _ w.in_grants (sound_grant t.M)
 
   pub row_holders : count_by (λ right. ltb 0 right) (row t.rights (c * t.M) t.M) ≡ holders t c
   unfolding holders
