@@ -82,8 +82,7 @@ fn sound_holders(mark: u8, row: &[u8]) -> bool
 
 // Whether cell `c`'s first is at most its last, and its bytes lie within the memory.
 fn sound_range(tables: Tables, memory: &[u8], c: usize) -> bool
-    requires inside { (c < length tables.first.now) × ((c < length tables.last.now) × (c < length tables.offset.now)) }
-    requires few { length memory.now ≤ 65536 }
+    requires { (c < length tables.first.now) × (c < length tables.last.now) × (c < length tables.offset.now) × (length memory.now ≤ 65536) }
     ensures { let t = lent tables.entry memory.now in
         result ≡ (leb (first_of t c) (last_of t c) && ltb (offset_of t c + last_of t c) (L t + first_of t c)) }
 {
