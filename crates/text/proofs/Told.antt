@@ -13,8 +13,7 @@ use Rattle.std.specs.Option.{unwrap_or}
 use Rattle.std.proofs.lemmas.List.{get_or-take}
 use Rattle.text.specs.Number.{Field, Number, Bad, peek_at, byte_or_none, number_at, option_of_field}
 use Rattle.text.specs.declared.number.Number.{Number as FoundNumber}
-use Rattle.text.specs.Line.{Row, option_of_row, row_of, bad_row, tab, line_feed, zeros5, case_field, word_at, fields_at, row_at, row_within}
-use Rattle.text.specs.declared.line.Row.{Row as Found}
+use Rattle.text.specs.Line.{Row, option_of_row, bad_row, row_told, tab, line_feed, zeros5, case_field, word_at, fields_at, row_at, row_within}
 use Rattle.text.specs.Text.{fields_text, row_text}
 use Rattle.text.proofs.Cases.{by_test}
 
@@ -32,10 +31,6 @@ number_told (Number x n) = refl
 number_told Bad = refl
 
 -- ---- a row
-
-abbrev pub row_told : Option Found → Row
-row_told (Some f) = row_of f
-row_told None = bad_row
 
 abbrev pub IsTold : Row → Type 0
 IsTold r = row_told (option_of_row r) ≡ r

@@ -9,7 +9,8 @@ use Rattle.text.specs.Text.{Put}
 use Rattle.text.proofs.number.peek.Reads as peek-reads
 use Rattle.text.proofs.number.number_at.Reads as number-at-reads
 use Rattle.text.proofs.line.row_at.Reads as row-at-reads
-use Rattle.text.proofs.line.Row.within.Reads as within-reads
+use Rattle.text.proofs.line.Row.within.Reads as row-within-reads
+use Rattle.text.proofs.line.within.Reads as within-reads
 use Rattle.text.proofs.put.put_word.Reads as put-word-reads
 use Rattle.text.proofs.put.put_number.Reads as put-number-reads
 use Rattle.text.proofs.put.put_row.Reads as put-row-reads
@@ -28,6 +29,9 @@ row_at_unique κs a r q s u e f = e ∙ sym f
 
 pub within_unique : (a : _) (r q : _) (s : _) → within-reads.Post tt a r s → within-reads.Post tt a q s → r ≡ q
 within_unique a r q s e f = e ∙ sym f
+
+pub row_within_unique : (a : _) (r q : _) (s : _) → row-within-reads.Post tt a r s → row-within-reads.Post tt a q s → r ≡ q
+row_within_unique a r q s e f = e ∙ sym f
 
 -- ---- the writers: the answer, and the buffer at exit
 

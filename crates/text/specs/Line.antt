@@ -34,6 +34,11 @@ row_of r = record { ok = true; next = r.next; v = r.v }
 abbrev pub bad_row : Row
 bad_row = record { ok = false; next = 0; v = zeros5 }
 
+-- the row that an answer tells
+abbrev pub row_told : Option Found → Row
+row_told (Some r) = row_of r
+row_told None = bad_row
+
 -- whether the word w stands at a place
 abbrev pub word_at : (s : List ℕ) (at : ℕ) (w : List ℕ) → Bool
 word_at s at [] = true

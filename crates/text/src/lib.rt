@@ -7,6 +7,6 @@ mod number;
 mod put;
 mod write;
 
-pub use line::{Row, row_at};
+pub use line::{Row, row_at, within};
 pub use number::{Number, number_at, peek};
 pub use put::{put_number, put_row, put_word};

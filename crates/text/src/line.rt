@@ -1,6 +1,6 @@
 // The line of a keyword and numbers that stands at a place of a text.
 ghost use Rattle.std.specs.Prelude.{◌≡◌, true, ◌+◌, ◌≤◌, length};
-ghost use Rattle.text.specs.Line.{option_of_row, row_of, zeros5, word_at, fields_at, row_at, row_within};
+ghost use Rattle.text.specs.Line.{option_of_row, row_of, row_told, zeros5, word_at, fields_at, row_at, row_within};
 
 use crate::number::{number_at, peek};
 
@@ -26,6 +26,14 @@ impl Row {
             None
         }
     }
+}
+
+// The same of what may be no row: of none, none.
+#[tactic(auto, using(crate::proofs::Lines::within_no_row))]
+pub fn within(row: Option<Row>, j: usize, least: u32, limit: u32) -> Option<Row>
+    ensures { result ≡ option_of_row (row_within (row_told row) j least limit) }
+{
+    row?.within(j, least, limit)
 }
 
 // Whether a word stands at a place. Where it does the place after it is a `usize`, which `row_at` then computes.
