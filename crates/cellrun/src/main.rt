@@ -9,12 +9,17 @@ ghost use Rattle.listing.specs.Output.{output_of};
 use std::io;
 use std::io::{Read, Write};
 
-// Room for a listing and one byte more, so that a longer one is seen to be too long. It comes from a function of its own, so
-// that a proof knows its length alone.
-fn room_for_listing() -> [u8; 65537]
-    ensures { 65537 ≡ length result }
+// Room for a listing and one byte more, so that a longer one is seen to be too long.
+const LISTING: usize = 65537;
+
+// Room for every output.
+const OUTPUT: usize = 532480;
+
+// Room for so many bytes. It comes from a function of its own, so that a proof knows its length alone.
+fn room<const N: usize>() -> [u8; N]
+    ensures { N ≡ length result }
 {
-    [0; 65537]
+    [0; N]
 }
 
 // Fills `text` with the start of the input, in however small parts it comes; how many bytes there were.
@@ -34,18 +39,11 @@ fn read_listing<R: Read>(input: &mut R, text: &mut [u8]) -> io::Result<usize>
     Ok(n)
 }
 
-// Room for every output, from a function of its own for the same reason.
-fn room_for_output() -> [u8; 532480]
-    ensures { 532480 ≡ length result }
-{
-    [0; 532480]
-}
-
 // Runs a listing, and writes what is to be written of it.
 fn write_output<W: Write>(text: &[u8], output: &mut W) -> io::Result<()>
     ensures { OnOk result (Appends (W.contents output.old) (W.contents output.new) (output_of text.now)) }
 {
-    let mut out = room_for_output();
+    let mut out = room::<OUTPUT>();
     let end = listing::cellrun(text, &mut out);
     output.write_all(&out[..end])
 }
@@ -55,7 +53,7 @@ fn run<R: Read, W: Write>(input: &mut R, output: &mut W) -> io::Result<()>
     ensures { OnOk result (IfSome (R.remaining input.old)
         (λ bytes. Appends (W.contents output.old) (W.contents output.new) (output_of (take 65537 bytes)))) }
 {
-    let mut text = room_for_listing();
+    let mut text = room::<LISTING>();
     let n = read_listing(input, &mut text)?;
     write_output(&text[..n], output)
 }

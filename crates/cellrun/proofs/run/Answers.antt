@@ -10,4 +10,4 @@ returns g c =
     of_first c.write_output.result (g.R.Read.remaining c.args.input.now)
     (λ bytes. Appends (g.W.Write.contents c.args.output.now) (g.W.Write.contents c.write_output.new.output) (output_of bytes))
     (take c.in_ok-n.n c.read_listing.new.text) c.read_listing.new.text 65537
-    (c.room_for_listing-text.ensures ∙ sym c.read_listing.auto.text) c.in_ok-n.ensures.bytes c.write_output.ensures
+    (c.room-text.ensures ∙ sym c.read_listing.auto.text) c.in_ok-n.ensures.bytes c.write_output.ensures
