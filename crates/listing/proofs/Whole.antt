@@ -5,7 +5,8 @@ use mathlib.Core.List.{List, [], ◌∷◌, ◌++◌}
 use mathlib.Core.Bool.{true, false}
 use native.Mathlib.Omega.{arith}
 use lib.ListN.{length, get_or, take, replicate, length-set, length-take, length-replicate}
-use lib.Seq.{get_or-set_same, get_or-set_other}
+use lib.Seq.{get_or-set_same, get_or-set_other, length-take-le}
+use Rattle.std.proofs.lemmas.List.{get_or-take}
 use lib.Dec.{eqb}
 use borrow.Author.Tests.{eqb-true, eqb-false, eq-eqb, ne_eqb, le-leb, lt-leb}
 use Rattle.text.specs.Text.{Put, Ends}
@@ -89,14 +90,16 @@ module _ (s : State) (l : List ℕ) (k : ℕ) (long : length l ≡ 4 * k) (few :
   room_is = rw (a, b) (room_all (length l) k long few)
 
   module _ (e : ran u ns vs ≡ run_all s l ns₀ vs₀) where
-    answers_same : lines_of (answer_of ns vs) 0 k ≡ lines_of (answer_line s l) 0 k
+    answers_same : lines_of (answer_of (take k ns) (take k vs)) 0 (length (take k ns)) ≡ lines_of (answer_line s l) 0 k
     unfolding answer_of answer_line
     answers_same =
-        lines_same (answer_of ns vs) (answer_line s l) 0 k
+        let long : length ns ≡ 5957 = ap (λ (r : Ran). length r.numbers) e ∙ answers_long s l ns₀ (λ o. o.number) room ∙ a in
+        rw (length-take-le k ns (omega arith))
+        (lines_same (answer_of (take k ns) (take k vs)) (answer_line s l) 0 k
         (λ j _ h.
-        rw (ap (λ (r : Ran). r.numbers) e, ap (λ (r : Ran). r.values) e, room_is, answers_at s l ns₀ (λ o. o.number) k j (omega arith) (omega (arith, a)), answers_at s l vs₀ (λ o. o.value) k j (omega arith) (omega (arith, b))))
+        rw (get_or-take k ns j 0 (omega arith), get_or-take k vs j 0 (omega arith), ap (λ (r : Ran). r.numbers) e, ap (λ (r : Ran). r.values) e, room_is, answers_at s l ns₀ (λ o. o.number) k j (omega arith) (omega (arith, a)), answers_at s l vs₀ (λ o. o.value) k j (omega arith) (omega (arith, b)))))
 
-    pub run_body : {o o₁ o₂ : List ℕ} {at m r : ℕ} → Put o at (lines_of (answer_of ns vs) 0 k) m o₁ → Put o₁ m (lines_after u) r o₂
+    pub run_body : {o o₁ o₂ : List ℕ} {at m r : ℕ} → Put o at (lines_of (answer_of (take k ns) (take k vs)) 0 (length (take k ns))) m o₁ → Put o₁ m (lines_after u) r o₂
         → Put o at (body_of (run s k l)) r o₂
     unfolding body_of
     run_body p q =

@@ -3,7 +3,7 @@ use Prim.Native.Nat.{ℕ, zero, suc, ◌+◌, ◌*◌, ◌/◌, ◌%◌, ◌≤�
 use mathlib.Core.Path.{◌≡◌, refl, sym, ap, ◌∙◌}
 use mathlib.Core.List.{List, [], ◌∷◌, ◌++◌, append_assoc, append-nil}
 use native.Mathlib.Omega.{arith}
-use native.Mathlib.Nat.{add-zero, mul-add, mul-one}
+use native.Mathlib.Nat.{add-zero, mul-add, mul-one, mul-le-mul_left, div-le_self, mod-lt}
 use native.Mathlib.Numerals.{add-one}
 use lib.ListN.{length, get_or, length-append}
 use borrow.Author.Tests.{ne_eqb, lt-ltb, le-ltb}
@@ -94,6 +94,13 @@ module _ {l l₁ : List ℕ} {at r : ℕ} where
   grant_short a b c d h i j k p =
       omega (arith, p.place, line4_long grant_word a b c d, four_digits a h, two_digits b i, three_digits c j, three_digits d k)
 
+-- an entry's cell has at most four digits, and its division two
+pub cell_short : (e m : ℕ) → e ≤ 8191 → e / m < 10000
+cell_short e m h = omega (arith, div-le_self e m)
+
+pub division_short : (e m : ℕ) → 1 ≤ m → m ≤ 32 → e % m < 100
+division_short e m some few = omega (arith, mod-lt e some)
+
 -- the lines from i on, and one behind them
 lines_last : (line : ℕ → List ℕ) (i k : ℕ) → lines_of line i (suc k) ≡ lines_of line i k ++ line (i + k)
 unfolding lines_of
@@ -126,6 +133,13 @@ lined_more {line} {room} {k} {at} {l₀} {l} {i} {e} h f {r} {l₁} p q =
       short = omega (arith, h.short, mul-add room e 1, mul-one room);
       put = rw (lines_next line e) (put_then h.put p);
     }
+
+-- room for one line more, where there is room for k
+pub room_more : {line : ℕ → List ℕ} {room k at : ℕ} {l₀ l : List ℕ} {i e : ℕ} → Lined line room k at l₀ l i e → e < k
+    → (spare : ℕ) → at + room * k + spare ≤ length l₀ → i + room + spare ≤ length l
+room_more {room = room} {k = k} {e = e} h f spare fits =
+    let next : room * (e + 1) ≤ room * k = mul-le-mul_left room (omega arith) in
+    omega (arith, h.short, h.long, fits, next, mul-add room e 1, mul-one room)
 
 pub lined_all : {line : ℕ → List ℕ} {room k at : ℕ} {l₀ l : List ℕ} {i e : ℕ} → Lined line room k at l₀ l i e → k ≤ e
     → Put l₀ at (lines_of line 0 k) i l × (i ≤ at + room * k)

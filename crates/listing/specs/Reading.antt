@@ -1,5 +1,7 @@
 -- What the readers and writers answer, in the words of the listing. Assumes nothing.
-use Rattle.std.specs.Prelude.{ℕ, ◌+◌, ◌≤◌, ◌≡◌, true, false, Option, Some, None, List, [], cond, length, get_or, leb}
+use Rattle.std.specs.Prelude.{ℕ, ◌+◌, ◌<◌, ◌≤◌, ◌≡◌, true, false, Option, Some, None, List, [], cond, length, get_or, leb}
+use Rattle.std.specs.Borrow.{MutBor}
+use Rattle.text.specs.Text.{Put}
 use Rattle.listing.specs.Words.{answer_word}
 use Rattle.listing.specs.Listing.{Entries}
 use Rattle.listing.specs.Output.{line3, output_of}
@@ -21,6 +23,16 @@ pub record FilledAs (t : Entries) (r : Passed) (after : List ℕ) : Type 0 where
   pub counted : r.count ≡ t.count
   pub ended : r.next ≡ t.next
   pub filled : after ≡ t.list
+
+-- the calls at the entries of a list write the text of each: `post` is what a call ensures of the buffer, the place, an entry's
+-- number and the entry, where it answers the place after and leaves the buffer. So they do where there is room for `most` bytes,
+-- which is as long as a text may be, and for some more, which a call may ask for.
+abbrev pub Writes :
+    {T : Type 0} (post : MutBor (List ℕ) → ℕ → ℕ → T → ℕ → MutBor (List ℕ) → Type 0) (list : List T) (text : ℕ → List ℕ) (most spare : ℕ) → Type 0
+Writes {T} post list text most spare =
+    (before after : MutBor (List ℕ)) (at e r : ℕ) (x : T)
+    → e < length list → x ≡ get_or list e x → at + most + spare ≤ length before.now → post before at e x r after
+    → Put before.now at (text e) r after.now × (r ≤ at + most)
 
 -- the line of the answer numbered i from 0 in two lists of numbers and values
 unfoldable pub answer_of : (numbers values : List ℕ) (i : ℕ) → List ℕ

@@ -46,9 +46,8 @@ fn run_instructions(
     ensures ends { result ≤ output_room }
 {
     let after = execute_all(tables, memory, registers, instructions, numbers, values);
-    let end = put_answers(out, at, numbers, values, count);
-    let now = tables.tables();
-    put_state(out, end, after, now.m, now.rights, now.grants)
+    let end = put_answers(out, at, &numbers[..count], &values[..count]);
+    put_state(out, end, after, tables.tables())
 }
 
 // From the core line on, behind `line` lines.

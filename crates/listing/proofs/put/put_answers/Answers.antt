@@ -1,24 +1,23 @@
+use Prim.Native.Nat.{◌+◌}
+use mathlib.Core.Path.{◌≡◌, ◌∙◌}
+use mathlib.Core.List.{[], ◌∷◌}
+use lib.ListN.{get_or}
 use native.Mathlib.Omega.{arith}
+use Rattle.std.proofs.Common.{rules}
+use Rattle.std.proofs.lemmas.List.{get_or_default}
+use Rattle.listing.proofs.Written.{put3, row_put, answer_short}
+use Rattle.text.specs.Text.{Put, row_in}
 use Rattle.listing.specs.Words.{answer_word}
-use lib.ListN.{length}
-use Prim.Native.Nat.{◌+◌, ◌≤◌}
-use Rattle.listing.proofs.Written.{put3, row_put, answer_short, lined_none, lined_more, lined_all}
 use Rattle.listing.specs.Reading.{answer_of}
 use Rattle.listing.proofs.put.put_answers.Goals as goal
 
-pub loop-k-init : goal.loop-k-init
-loop-k-init c = lined_none _ _ _ _ _
-
-pub loop-k-preserved : goal.loop-k-preserved
-unfolding answer_of
-loop-k-preserved c =
-    let l = c.loop-k in
-    let k = c.loop-k-test.true in
-    let room : l.i + 40 ≤ length l.out = omega (arith, l.invariant.short, l.invariant.long, c.requires.3) in
-    let p = put3 _ _ _ _ (row_put answer_word _ 3 (omega arith) room c.put_row-i.ensures.puts) in
-    lined_more l.invariant k p (answer_short (l.k + 1) _ _ (omega (arith, c.requires.0)) p)
-
 pub returns : goal.returns
+unfolding answer_of
 returns c =
-    let all = lined_all c.loop-k.invariant c.loop-k-test.false in
+    let values = c.args.values.now in
+    let all = c.put_lines.ensures (answer_of c.args.numbers.now values) 34 6 (λ before after at e r x more is room post.
+    let p : Put before.now at (row_in before.now at answer_word ((e + 1) ∷ (x ∷ (get_or values e 0 ∷ []))) 3) r after.now = search rules in
+    let told : x ≡ get_or c.args.numbers.now e 0 = is ∙ get_or_default c.args.numbers.now e x 0 more in
+    let q = put3 answer_word _ _ _ (row_put answer_word _ 3 (omega arith) (omega arith) p) in
+    (rw (← told) q, answer_short _ _ _ (omega (arith, c.requires.0)) q)) (omega arith) in
     record { puts = all.0; ends = all.1 }
