@@ -58,7 +58,7 @@ pub enum Call {
     View(u32, usize),
 }
 
-// ---- instruction numbers
+// ---- instruction numbers, and no enum: a call takes a number, and there are cases with 11, 256 and TOP
 
 pub const LOAD: u32 = 0;
 

@@ -22,7 +22,8 @@ fn room<const N: usize>() -> [u8; N]
     [0; N]
 }
 
-// Fills `text` with the start of the input, in however small parts it comes; how many bytes there were.
+// Fills `text` with the start of the input, in however small parts it comes; how many bytes there were. The loop is
+// our own: the library's calls that read to the end fill a `Vec`, and `read_exact` does not say how much there was.
 fn read_listing<R: Read>(input: &mut R, text: &mut [u8]) -> io::Result<usize>
     ensures within { IfOk result (λ n. n ≤ length text.new) }
     ensures bytes { IfOk result (λ n. IfSome (R.remaining input.old)

@@ -20,7 +20,7 @@ use rules::{Registers, TablesMut};
 // Room for every output, with some to spare: `cells 1`, 5,957 answers, the core, 8,192 rights and 8,192 grants.
 const ROOM: usize = 532480;
 
-// A list at its largest. It comes from a function of its own, so that a proof knows no more of it than it needs.
+// A list at its largest: there is no heap, so that parts of such lists are lent on. It comes from a function of its own, so that a proof knows no more of it than it needs.
 fn filled<T: Copy, const N: usize>(value: T) -> [T; N]
     ensures { result ≡ replicate N value }
 {

@@ -27,7 +27,7 @@ one_if false = refl
 
 -- an acceptance
 abbrev accepts : (v : ℕ) → Registers → Tables → Outcome
-accepts v r t = accepted_as (record { value = v; registers = r }) t
+accepts v r t = accepted_as (v, r) t
 
 -- ---- what the range and the checks of a kind say
 

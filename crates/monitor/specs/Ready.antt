@@ -28,7 +28,7 @@ made passes r = cond passes (Ok tt) (Err r)
 
 -- an acceptance, with what is lent as it is then
 abbrev pub accepted_as : Accepted → Tables → Outcome
-accepted_as a t = accepted a.value [] (state t a.registers)
+accepted_as a t = accepted a.0 [] (state t a.1)
 
 -- an acceptance or a refusal, which leaves the registers as they were before
 abbrev pub gave : Result Accepted Refusal → (before : Registers) → Tables → Outcome
@@ -37,7 +37,7 @@ gave (Err r) before t = record { number = number_of r; value = value_with r; par
 
 -- the reply to a call
 abbrev pub replied : Result Accepted Refusal → (before : Registers) → Reply
-replied (Ok a) before = record { number = 0; value = a.value; registers = a.registers }
+replied (Ok a) before = record { number = 0; value = a.0; registers = a.1 }
 replied (Err r) before = record { number = number_of r; value = value_with r; registers = before }
 
 -- what checks answer: the number of the first to fail, and the value that goes with it

@@ -53,75 +53,41 @@ pub fn apply(
     match i {
         Instruction::Load(x) => {
             let place = place_of(now, c, x);
-            let value = memory[place] as u32;
-            Accepted { value, registers }
+            Accepted(memory[place] as u32, registers)
         }
         Instruction::Store(x, y) => {
             let place = place_of(now, c, x);
             memory[place] = y;
-            Accepted {
-                value: 0,
-                registers,
-            }
+            Accepted(0, registers)
         }
-        Instruction::Fetch(x) => {
-            let place = place_of(now, c, x);
-            let value = word_in(memory, place);
-            Accepted { value, registers }
-        }
-        Instruction::Switch(x, y) => Accepted {
-            value: registers.current,
-            registers: registers.after_switch(y, x),
-        },
+        Instruction::Fetch(x) => Accepted(word_in(memory, place_of(now, c, x)), registers),
+        Instruction::Switch(x, y) => Accepted(registers.current, registers.after_switch(y, x)),
         Instruction::Protect(_, y) => {
             tables.rights[own] = y;
-            Accepted {
-                value: y as u32,
-                registers,
-            }
+            Accepted(y as u32, registers)
         }
         Instruction::Grant(_, y, z) => {
             tables.grants[own] = grant_entry(y, z);
-            Accepted {
-                value: held as u32,
-                registers,
-            }
+            Accepted(held as u32, registers)
         }
         Instruction::Receive(_, y) => {
-            let joined = take_grant(tables.m, tables.rights, tables.grants, c, d, y as usize);
-            Accepted {
-                value: joined as u32,
-                registers,
-            }
+            let y = y as usize;
+            let joined = take_grant(tables.m, tables.rights, tables.grants, c, d, y);
+            Accepted(joined as u32, registers)
         }
         Instruction::Transfer(_, y, z) => {
             tables.grants[own] = grant_entry(y, z);
             tables.rights[own] = 0;
-            Accepted {
-                value: 0,
-                registers,
-            }
+            Accepted(0, registers)
         }
         Instruction::Invalidate(_) => {
             tables.marks[c] = 0;
-            Accepted {
-                value: held as u32,
-                registers,
-            }
+            Accepted(held as u32, registers)
         }
         Instruction::Revalidate(_) => {
             tables.marks[c] = 1;
-            Accepted {
-                value: held as u32,
-                registers,
-            }
+            Accepted(held as u32, registers)
         }
-        Instruction::Exclusive(_) => {
-            let alone = nobody_else(now, c, d);
-            Accepted {
-                value: alone as u32,
-                registers,
-            }
-        }
+        Instruction::Exclusive(_) => Accepted(nobody_else(now, c, d) as u32, registers),
     }
 }

@@ -7,7 +7,7 @@ ghost use Rattle.rules.specs.Instructions.{needs};
 ghost use Rattle.monitor.specs.Ready.{Ready, made};
 ghost use Rattle.rules.specs.Refusals.{not_valid, not_whole, right_missing, no_grant, other_holds, not_entry, same_rights, ◌unless◌, failing, first_failing};
 
-use crate::look::{entry_word, grant_at, grant_names, held_at, nobody_else, whole_word};
+use crate::look::{entry_word, grant_names, held_at, nobody_else, whole_word};
 use rules::{Instruction, Refusal, Registers, Tables};
 
 // One check: it passes, or is this refusal.
@@ -116,7 +116,7 @@ pub fn judge(
         Instruction::Protect(_, y) => judge_protect(valid, y, held),
         Instruction::Grant(_, _, z) => judge_right(valid, z, held),
         Instruction::Receive(_, y) => {
-            let g = grant_at(tables, c, y as usize);
+            let g = tables.grants[c * tables.m + y as usize];
             judge_receive(valid, grant_names(g, registers.current))
         }
         Instruction::Transfer(_, _, z) => judge_right(valid, z, held),

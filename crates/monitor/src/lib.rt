@@ -140,11 +140,7 @@ pub fn write_block(
         Ok(place) => {
             let end = place + bytes.len();
             copy_into(&mut memory[place..end], bytes);
-            let accepted = Accepted {
-                value: 0,
-                registers,
-            };
-            Reply::new(Ok(accepted), registers)
+            Reply::new(Ok(Accepted(0, registers)), registers)
         }
         Err(refusal) => Reply::new(Err(refusal), registers),
     }

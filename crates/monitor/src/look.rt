@@ -16,14 +16,6 @@ pub fn held_at(tables: Tables, c: usize, d: usize) -> u8
     tables.rights[c * tables.m + d]
 }
 
-// The grant entry of the granter `d` on cell `c`.
-pub fn grant_at(tables: Tables, c: usize, d: usize) -> u16
-    requires { c * tables.m + d < length tables.grants.now }
-    ensures { result ≡ get_or tables.entry.grants.now (c * tables.entry.m + d) 0 }
-{
-    tables.grants[c * tables.m + d]
-}
-
 // Whether the entry `g` is a grant that names `d`. An entry of 0 is none, though its target would read as division 0.
 #[tactic(auto, unfolding(rules::specs::Instructions::grant_names))]
 pub fn grant_names(g: u16, d: u32) -> bool

@@ -5,6 +5,7 @@ ghost use Rattle.monitor.specs.Ready.{replied};
 use rules::{Refusal, Registers};
 
 // What a call answers: a number of the refusal list, 0 for acceptance, the value that goes with it, and the registers.
+// They are numbers, and no `Result`, since C gets them.
 #[repr(C)]
 #[derive(Clone, Copy, PartialEq, Eq)]
 pub struct Reply {
@@ -14,6 +15,7 @@ pub struct Reply {
 }
 
 // A read view's number and value, where its part begins in the memory, and how many bytes it has; both 0 on a refusal.
+// C gets this one too.
 #[repr(C)]
 #[derive(Clone, Copy, PartialEq, Eq)]
 pub struct ViewPlace {
@@ -25,10 +27,7 @@ pub struct ViewPlace {
 
 // An acceptance: its value, and the registers afterwards.
 #[derive(Clone, Copy)]
-pub struct Accepted {
-    pub value: u32,
-    pub registers: Registers,
-}
+pub struct Accepted(pub u32, pub Registers);
 
 impl Reply {
     // The reply to a call: a refusal leaves the registers as they were.
@@ -36,10 +35,10 @@ impl Reply {
         ensures { result ≡ replied answer before }
     {
         match answer {
-            Ok(accepted) => Reply {
+            Ok(Accepted(value, registers)) => Reply {
                 number: 0,
-                value: accepted.value,
-                registers: accepted.registers,
+                value,
+                registers,
             },
             Err(refusal) => Reply {
                 number: refusal.number(),

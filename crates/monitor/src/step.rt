@@ -22,7 +22,9 @@ pub struct Answered {
     pub reply: Reply,
 }
 
-// What a well-formed instruction answers and does, on tables and registers that checks 1, 2 and 3 let through.
+// What a well-formed instruction answers and does, on tables and registers that checks 1, 2 and 3 let through. `Begun` is a
+// clause of four functions, and no field of a struct: `apply` would have to show it after each write, and so it is shown
+// once for a whole instruction (`begun_kept`).
 pub fn step(
     tables: &mut TablesMut,
     memory: &mut [u8],

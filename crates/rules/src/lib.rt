@@ -76,7 +76,8 @@ impl Refusal {
 
 // ---- what the caller lends
 
-// The tables as a call takes them for reading, beside the memory: M, and the lists. N is the length of `first`.
+// The tables as a call takes them for reading: M, and the lists. N is the length of `first`. The memory is lent beside them,
+// since a block write writes it and reads the rest; the registers are passed beside them, since they come back as a value.
 #[derive(Clone, Copy)]
 pub struct Tables<'a> {
     pub m: usize,
@@ -88,7 +89,8 @@ pub struct Tables<'a> {
     pub grants: &'a [u16],
 }
 
-// The same, where a call may write the marks, the rights and the grants.
+// The same, where a call may write the marks, the rights and the grants. It is a struct of its own, as a slice's `IterMut` is:
+// no type is a reference for reading in one call and for writing in another.
 #[derive(Drop)]
 pub struct TablesMut<'a> {
     pub m: usize,
@@ -143,6 +145,7 @@ impl Registers {
 
 // ---- rights
 
+// A set of rights is a byte, the sum of its rights, and no struct: the lists of rights that C lends hold such bytes.
 pub const READ: u8 = 1;
 
 pub const WRITE: u8 = 2;
@@ -276,7 +279,8 @@ fn source_operand(m: u32, d: u32, y: u32, z: u32) -> bool
     (y < m) & (y != d) & (z == 0)
 }
 
-// The lowest eight bits of a number: all of it where it is at most 255.
+// The lowest eight bits of a number: all of it where it is at most 255. A cast alone would need that bound, which only the
+// test of the operand beside it gives.
 fn low_byte(x: u32) -> u8
     ensures { result ≡ x % 256 }
 {
@@ -298,7 +302,7 @@ fn keep(at: usize, in_range: bool, instruction: Instruction) -> Result<Placed, R
 }
 
 // The instruction that four numbers stand for where `d` of `m` divisions is current, kept beside its listing position
-// `at`; refusal 4 for another number, 5 for an operand outside its range.
+// `at`; refusal 4 for another number, 5 for an operand outside its range. They are four parameters, as C passes them.
 #[tactic(auto, unfolding(crate::specs::Instructions::formed))]
 pub fn decode(
     m: u32,

@@ -1,5 +1,6 @@
 // Reads and writes text of decimal numbers: lines of a keyword and up to five numbers, and the fields and words that
-// they are made of. No public function has a `requires`: each contract is an equation for every text, place and buffer.
+// they are made of. A place is a parameter beside its text or buffer, and no field of a struct with it: each call has another
+// place, and answers the next. No public function has a `requires`: each contract is an equation for every text, place and buffer.
 #![tactic(auto)]
 
 mod line;

@@ -35,7 +35,8 @@ fn shift(value: u64, c: u8) -> u64
     (10 * value + u64::from(c - b'0')).min(TOO_LARGE)
 }
 
-// The run of digits at a place, which may be empty.
+// The run of digits at a place, which may be empty. By `take_while` the digits would be passed twice, for how many they are
+// and for their value.
 fn run_at(s: &[u8], at: usize) -> Run
     ensures value { result.value ≡ min (value_from 0 (drop at s.now)) 4294967296 }
     ensures next { result.next ≡ at + digits_in (drop at s.now) }

@@ -46,18 +46,18 @@ returns-in-Store-clause-done c =
     let here = (goal.at.returns-in-Store-clause-done c).After-held_at-held in
     store_done (ready here) c.in-Store.is (c.place_of-place-in-Store.ensures ∙ seen_place _ _ c.tables-now.ensures _ _) refl
 
-pub place_of-place-requires-in-Fetch : goal.place_of-place-requires-in-Fetch
-place_of-place-requires-in-Fetch c = place_there (seen_ready _ _ c.tables-now.ensures c.requires.ready) c.in-Fetch.is
+pub place_of-requires : goal.place_of-requires
+place_of-requires c = place_there (seen_ready _ _ c.tables-now.ensures c.requires.ready) c.in-Fetch.is
 
-pub word_in-value-requires : goal.word_in-value-requires
-word_in-value-requires c =
-    let here = (goal.at.word_in-value-requires c).After-held_at-held in
-    rw (c.place_of-place-in-Fetch.ensures ∙ seen_place _ _ c.tables-now.ensures _ _) (fetch_there (ready here) c.in-Fetch.is c.requires.all_hold)
+pub word_in-requires : goal.word_in-requires
+word_in-requires c =
+    let here = (goal.at.word_in-requires c).After-held_at-held in
+    rw (c.place_of.ensures ∙ seen_place _ _ c.tables-now.ensures _ _) (fetch_there (ready here) c.in-Fetch.is c.requires.all_hold)
 
 pub returns-in-Fetch-clause-done : goal.returns-in-Fetch-clause-done
 returns-in-Fetch-clause-done c =
     let here = (goal.at.returns-in-Fetch-clause-done c).After-held_at-held in
-    fetch_done (ready here) c.in-Fetch.is (c.place_of-place-in-Fetch.ensures ∙ seen_place _ _ c.tables-now.ensures _ _) c.word_in-value.ensures
+    fetch_done (ready here) c.in-Fetch.is (c.place_of.ensures ∙ seen_place _ _ c.tables-now.ensures _ _) c.word_in.ensures
 
 -- ---- rights and grants
 
@@ -106,10 +106,10 @@ returns-in-Revalidate-clause-done c =
     let here = (goal.at.returns-in-Revalidate-clause-done c).After-held_at-held in
     revalidate_done (ready here) c.in-Revalidate.is (held_is here) refl
 
-pub nobody_else-alone-requires : goal.nobody_else-alone-requires
-nobody_else-alone-requires c = row_there (seen_ready _ _ c.tables-now.ensures c.requires.ready)
+pub nobody_else-requires : goal.nobody_else-requires
+nobody_else-requires c = row_there (seen_ready _ _ c.tables-now.ensures c.requires.ready)
 
 pub returns-in-Exclusive-clause-done : goal.returns-in-Exclusive-clause-done
 returns-in-Exclusive-clause-done c =
     let here = (goal.at.returns-in-Exclusive-clause-done c).After-held_at-held in
-    exclusive_done (ready here) c.in-Exclusive.is (c.nobody_else-alone.ensures ∙ seen_alone _ _ c.tables-now.ensures _ _)
+    exclusive_done (ready here) c.in-Exclusive.is (c.nobody_else.ensures ∙ seen_alone _ _ c.tables-now.ensures _ _)

@@ -3,7 +3,7 @@
 -- word come first.
 use Rattle.monitor.proofs.Readiness.{cell_there, row_there, own_rights, source_grant, covers_address, target_rights, place_there, word_there}
 use Rattle.monitor.proofs.Judging.{load_judged, store_judged, protect_judged, grant_judged, receive_judged, transfer_judged, invalidate_judged, revalidate_judged, exclusive_judged, fetch_judged, switch_judged}
-use mathlib.Core.Path.{sym, ◌∙◌}
+use mathlib.Core.Path.{refl, sym, ◌∙◌}
 use Rattle.rules.specs.Lent.{lent}
 use Rattle.rules.specs.Numbers.{state}
 use Rattle.monitor.specs.Ready.{Ready}
@@ -62,11 +62,6 @@ pub held_at-held-requires : goal.held_at-held-requires
 held_at-held-requires c =
     own_rights c.requires
 
-pub grant_at-g-requires : goal.grant_at-g-requires
-grant_at-g-requires c =
-    let held = (goal.at.grant_at-g-requires c).After-held_at-held in
-    source_grant (ready held) c.in-Receive.is
-
 pub nobody_else-requires : goal.nobody_else-requires
 nobody_else-requires c = row_there (ready (goal.at.nobody_else-requires c).After-held_at-held)
 
@@ -93,7 +88,7 @@ returns-in-Grant c =
 pub returns-in-Receive : goal.returns-in-Receive
 returns-in-Receive c =
     let held = (goal.at.returns-in-Receive c).After-held_at-held in
-    receive_judged (ready held) c.in-Receive.is c.grant_at-g.ensures c.grant_names.ensures c.judge_receive.ensures
+    receive_judged (ready held) c.in-Receive.is refl c.grant_names.ensures c.judge_receive.ensures
 
 pub returns-in-Transfer : goal.returns-in-Transfer
 returns-in-Transfer c =
