@@ -89,9 +89,6 @@ module _ {t : Tables} {r : Registers} {i : Instruction} {c : ℕ} (p : Ready (st
   pub own_rights : entry t c r.current < length t.rights
   own_rights = entry_in_rights t p.begun.sizes c p.cell.cell r.current p.begun.current
 
-  pub own_grant : entry t c r.current < length t.grants
-  own_grant = entry_in_grants t p.begun.sizes c p.cell.cell r.current p.begun.current
-
   -- what the operands of its kind name
   pub covers_address : {j : Instruction} → i ≡ j → Covering t (address_of j) c
   covers_address e = subst (λ j. Covering t (address_of j) c) e p.cell

@@ -4,7 +4,7 @@ use mathlib.Core.Path.{◌≡◌, refl, sym, ap, ◌∙◌, subst}
 use mathlib.Core.Bool.{Bool, true, false, cond, ◌&&◌, true≢false}
 use native.Mathlib.Omega.{arith}
 use native.Mathlib.Numerals.{add-one}
-use native.Mathlib.Nat.{add-zero, sub-zero}
+use native.Mathlib.Nat.{sub-zero}
 use lib.Dec.{ltb, eqb}
 use borrow.Author.Tests.{ltb-true, ltb-false, eqb-true, eqb-false}
 use Rattle.rules.specs.Below.{every, count, lowest_from, lowest}
@@ -80,19 +80,9 @@ module _ (p q : ℕ → Bool) where
 -- ---- count
 
 module _ (p : ℕ → Bool) where
-  pub count_none : count p 0 ≡ 0
-  unfolding count
-  count_none = refl
-
   pub count_more : (k : ℕ) → count p (k + 1) ≡ count p k + cond (p k) 1 0
   unfolding count
   count_more k = rw add-one
-
-  pub count_yes : (k : ℕ) → p k ≡ true → count p (k + 1) ≡ count p k + 1
-  count_yes k e = rw (count_more k, e)
-
-  pub count_no : (k : ℕ) → p k ≡ false → count p (k + 1) ≡ count p k
-  count_no k e = rw (count_more k, e) (add-zero (count p k))
 
   pub count_le : (n : ℕ) → count p n ≤ n
   unfolding count
