@@ -18,25 +18,41 @@ use Rattle.listing.specs.Output.{line1, line3, line4, lines_of, right_line, gran
 -- a line for which there is room: the text, and where it ends
 module _ (w v : List ℕ) (k : ℕ) {l l₁ : List ℕ} {at r : ℕ} (few : k ≤ 5) (room : at + (length w + 11 * k + 1) ≤ length l)
     (p : Put l at (row_in l at w v k) r l₁) where
-  pub row_put : Put l at (row_text w v k) r l₁
+  row_put : Put l at (row_text w v k) r l₁
   row_put = rw (row_fits l at w v k room) at p
 
-  pub row_short : r ≤ at + (length w + 11 * k + 1)
+  row_short : r ≤ at + (length w + 11 * k + 1)
   row_short = omega (arith, row_put.place, row_length w v k few)
 
 -- a line of one, three or four numbers, of which no more were given
 module _ {l l₁ : List ℕ} {at r : ℕ} (w : List ℕ) (a : ℕ) where
-  pub put1 : Put l at (row_text w (a ∷ []) 1) r l₁ → Put l at (line1 w a) r l₁
+  put1 : Put l at (row_text w (a ∷ []) 1) r l₁ → Put l at (line1 w a) r l₁
   unfolding row_text
   put1 p = p
 
-  pub put3 : (b c : ℕ) → Put l at (row_text w (a ∷ b ∷ c ∷ []) 3) r l₁ → Put l at (line3 w a b c) r l₁
+  put3 : (b c : ℕ) → Put l at (row_text w (a ∷ b ∷ c ∷ []) 3) r l₁ → Put l at (line3 w a b c) r l₁
   unfolding row_text
   put3 b c p = p
 
-  pub put4 : (b c d : ℕ) → Put l at (row_text w (a ∷ b ∷ c ∷ d ∷ []) 4) r l₁ → Put l at (line4 w a b c d) r l₁
+  put4 : (b c d : ℕ) → Put l at (row_text w (a ∷ b ∷ c ∷ d ∷ []) 4) r l₁ → Put l at (line4 w a b c d) r l₁
   unfolding row_text
   put4 b c d p = p
+
+-- a line of one, three or four numbers for which there is room, as `put_row` writes it
+module _ {l l₁ : List ℕ} {at r : ℕ} (w : List ℕ) (a : ℕ) where
+  pub line1_put : at + (length w + 11 + 1) ≤ length l → Put l at (row_in l at w (a ∷ []) 1) r l₁
+      → Put l at (line1 w a) r l₁ × (r ≤ at + (length w + 11 + 1))
+  line1_put room p = (put1 w a (row_put w (a ∷ []) 1 (omega arith) room p), row_short w (a ∷ []) 1 (omega arith) room p)
+
+  pub line3_put : (b c : ℕ) → at + (length w + 33 + 1) ≤ length l → Put l at (row_in l at w (a ∷ b ∷ c ∷ []) 3) r l₁
+      → Put l at (line3 w a b c) r l₁ × (r ≤ at + (length w + 33 + 1))
+  line3_put b c room p =
+      let v = a ∷ b ∷ c ∷ [] in
+      (put3 w a b c (row_put w v 3 (omega arith) room p), row_short w v 3 (omega arith) room p)
+
+  pub line4_put : (b c d : ℕ) → at + (length w + 44 + 1) ≤ length l → Put l at (row_in l at w (a ∷ b ∷ c ∷ d ∷ []) 4) r l₁
+      → Put l at (line4 w a b c d) r l₁
+  line4_put b c d room p = put4 w a b c d (row_put w (a ∷ b ∷ c ∷ d ∷ []) 4 (omega arith) room p)
 
 -- ---- how long a line is
 

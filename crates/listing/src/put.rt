@@ -9,7 +9,8 @@ ghost use Rattle.listing.specs.Reading.{answer_of, Writes};
 use rules::{Registers, Tables};
 use text::put_row;
 
-// What `line` writes of each entry of the list, numbered from 0, one behind the other.
+// What `line` writes of each entry of the list, numbered from 0, one behind the other: whatever text the calls tell of an
+// entry, of at most `most` bytes, and whatever room they ask for beside it.
 fn put_lines<T: Copy, F: Fn(&mut [u8], usize, usize, T) -> usize>(
     out: &mut [u8],
     at: usize,

@@ -1,15 +1,8 @@
-use Prim.Native.Nat.{◌+◌, ◌≤◌}
-use lib.ListN.{length}
-use native.Mathlib.Omega.{arith}
 use Rattle.listing.specs.Words.{bad_word}
-use Rattle.listing.proofs.Written.{put1, row_put, row_short}
+use Rattle.listing.proofs.Written.{line1_put}
 use Rattle.listing.proofs.put.put_bad.Goals as goal
 
 pub returns : goal.returns
 returns c =
-    let p = c.put_row.ensures.puts in
-    let room : c.args.at + 15 ≤ length c.args.out.now = c.requires in
-    record {
-      puts = put1 _ _ (row_put bad_word _ 1 (omega arith) room p);
-      ends = row_short bad_word _ 1 (omega arith) room p;
-    }
+    let line = line1_put bad_word _ c.requires c.put_row.ensures.puts in
+    record { puts = line.0; ends = line.1 }
