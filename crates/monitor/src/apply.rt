@@ -11,7 +11,7 @@ use crate::look::{held_at, nobody_else, place_of, word_in};
 use crate::reply::Accepted;
 use rules::{Instruction, Registers, TablesMut};
 
-// The entry of a grant of rights `z` to `y`.
+// The entry of a grant of rights `z` to `y`: a number, as the lists have it that C lends.
 fn grant_entry(y: u32, z: u8) -> u16
     requires { (y < 256) × (z ≤ 7) }
     ensures { result ≡ grant_entry y z }

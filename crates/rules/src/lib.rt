@@ -76,7 +76,7 @@ impl Refusal {
 
 // ---- what the caller lends
 
-// The tables as a call takes them for reading: M, and the lists. N is the length of `first`. The memory is lent beside them,
+// The tables as a call takes them for reading: M, and the lists, side by side as C lends them. N is the length of `first`. The memory is lent beside them,
 // since a block write writes it and reads the rest; the registers are passed beside them, since they come back as a value.
 #[derive(Clone, Copy)]
 pub struct Tables<'a> {
@@ -152,7 +152,7 @@ pub const WRITE: u8 = 2;
 
 pub const EXECUTE: u8 = 4;
 
-// Whether every right of `a` is in `b`.
+// Whether every right of `a` is in `b`: right by right, and so is the join, since a wrong program gets one right wrong.
 #[tactic(auto, unfolding(crate::specs::Numbers::part_of))]
 pub fn part_of(a: u8, b: u8) -> bool
     ensures { result ≡ part_of a b }
@@ -302,7 +302,8 @@ fn keep(at: usize, in_range: bool, instruction: Instruction) -> Result<Placed, R
 }
 
 // The instruction that four numbers stand for where `d` of `m` divisions is current, kept beside its listing position
-// `at`; refusal 4 for another number, 5 for an operand outside its range. They are four parameters, as C passes them.
+// `at`; refusal 4 for another number, 5 for an operand outside its range. They are four parameters, as C passes them;
+// the match and its ranges are the form that document 01 names.
 #[tactic(auto, unfolding(crate::specs::Instructions::formed))]
 pub fn decode(
     m: u32,
