@@ -9,6 +9,7 @@ ghost use Rattle.listing.specs.Listing.{run as the_run, from_core, from_rights, 
 ghost use Rattle.listing.specs.Output.{body_of};
 ghost use Rattle.listing.specs.Reading.{Roomy, output_room, written_in};
 
+use crate::bounds::ShortText;
 use crate::cells::cells_at;
 use crate::dos::dos_at;
 use crate::entries::{byte_at, fill, grant_at, right_at};
@@ -52,7 +53,7 @@ fn run_instructions(
 
 // From the core line on, behind `line` lines.
 fn run_core(
-    s: &[u8],
+    s: ShortText,
     next: usize,
     line: usize,
     tables: &mut TablesMut,
@@ -61,17 +62,17 @@ fn run_core(
     at: usize,
 ) -> usize
     requires { (1 ≤ tables.old.m) × (tables.old.m ≤ 32) × (length tables.old.rights.now ≤ 8192) × (length tables.old.grants.now ≤ 8192)
-        × (length s.now ≤ 65536) × (line ≤ 262144) × Roomy at out.old }
-    ensures puts { Puts out at (body_of (from_core s.now line (lent_mut tables.old memory.old) (core_row s.now next))) result }
+        × (line ≤ 262144) × Roomy at out.old }
+    ensures puts { Puts out at (body_of (from_core s.entry.bytes.now line (lent_mut tables.old memory.old) (core_row s.entry.bytes.now next))) result }
     ensures ends { result ≤ output_room }
 {
-    let Some(core) = core_row(s, next) else {
+    let Some(core) = core_row(s.bytes, next) else {
         return put_bad(out, at, (line + 1) as u32);
     };
     let mut list = filled::<u32, 23828>(0);
     let dos = dos_at(s, core.next, &mut list);
     let count = dos.count;
-    if dos.next != s.len() {
+    if dos.next != s.bytes.len() {
         return put_bad(out, at, (line + 1 + count + 1) as u32);
     }
     let end = 4 * count;
@@ -97,7 +98,7 @@ fn run_core(
 
 // From the right lines on, into lists of zeros.
 fn run_rights(
-    s: &[u8],
+    s: ShortText,
     next: usize,
     l: u32,
     tables: &mut TablesMut,
@@ -105,10 +106,10 @@ fn run_rights(
     out: &mut [u8],
     at: usize,
 ) -> usize
-    requires sizes { (1 ≤ tables.old.m) × (tables.old.m ≤ 32) × (l ≤ 65536) × (length tables.old.first.now ≤ 256) × (length s.now ≤ 65536) × Roomy at out.old }
+    requires sizes { (1 ≤ tables.old.m) × (tables.old.m ≤ 32) × (l ≤ 65536) × (length tables.old.first.now ≤ 256) × Roomy at out.old }
     requires zeros { (tables.old.rights.now ≡ zeros (length tables.old.first.now * tables.old.m))
         × (tables.old.grants.now ≡ zeros (length tables.old.first.now * tables.old.m)) × (memory.old ≡ zeros l) }
-    ensures puts { Puts out at (body_of (from_rights s.now tables.old.m l (record {
+    ensures puts { Puts out at (body_of (from_rights s.entry.bytes.now tables.old.m l (record {
       next = next;
       first = tables.old.first.now;
       last = tables.old.last.now;
@@ -120,22 +121,19 @@ fn run_rights(
     let n = tables.first.len();
     let cells = n as u32;
     let m = tables.m as u32;
-    let a = fill(|at| right_at(s, at, cells, m), s.len(), next, tables.rights);
-    let b = fill(
-        |at| grant_at(s, at, cells, m),
-        s.len(),
-        a.next,
-        tables.grants,
-    );
-    let c = fill(|at| byte_at(s, at, l), s.len(), b.next, memory);
+    let text = s.bytes;
+    let most = text.len();
+    let a = fill(|at| right_at(text, at, cells, m), most, next, tables.rights);
+    let b = fill(|at| grant_at(text, at, cells, m), most, a.next, tables.grants);
+    let c = fill(|at| byte_at(text, at, l), most, b.next, memory);
     let line = 2 + n + a.count + b.count + c.count;
     run_core(s, c.next, line, tables, memory, out, at)
 }
 
 // From the cell lines on, with the lists at their largest, of which the parts that the size line asks for are lent on.
-fn run_cells(s: &[u8], next: usize, m: u32, l: u32, out: &mut [u8], at: usize) -> usize
-    requires { (1 ≤ m) × (m ≤ 32) × (l ≤ 65536) × (length s.now ≤ 65536) × Roomy at out.old }
-    ensures puts { Puts out at (body_of (from_rights s.now m l (cells_at s.now next))) result }
+fn run_cells(s: ShortText, next: usize, m: u32, l: u32, out: &mut [u8], at: usize) -> usize
+    requires { (1 ≤ m) × (m ≤ 32) × (l ≤ 65536) × Roomy at out.old }
+    ensures puts { Puts out at (body_of (from_rights s.entry.bytes.now m l (cells_at s.entry.bytes.now next))) result }
     ensures ends { result ≤ output_room }
 {
     let mut first = [0u32; 256];
@@ -145,7 +143,7 @@ fn run_cells(s: &[u8], next: usize, m: u32, l: u32, out: &mut [u8], at: usize) -
     let mut rights = filled::<u8, 8192>(0);
     let mut grants = filled::<u16, 8192>(0);
     let mut memory = filled::<u8, 65536>(0);
-    let cells = cells_at(s, next, &mut first, &mut last, &mut offset, &mut marks);
+    let cells = cells_at(s.bytes, next, &mut first, &mut last, &mut offset, &mut marks);
     let n = cells.count;
     let m = m as usize;
     let entries = n * m;
@@ -181,5 +179,6 @@ pub fn cellrun(s: &[u8], out: &mut [u8]) -> usize
     let Some(size) = size_row(s, head.next) else {
         return put_bad(out, at, 2);
     };
-    run_cells(s, size.next, size.v[0], size.v[1], out, at)
+    let text = ShortText { bytes: s };
+    run_cells(text, size.next, size.v[0], size.v[1], out, at)
 }

@@ -59,7 +59,6 @@ run_cells-requires c =
       rw e at few.0,
       rw e at few.1,
       rw e at (size_bytes s c.in-Some.head.next),
-      omega arith,
       record { head = c.put_head-at.ensures.ends; room = omega (arith, c.if-out-lt-ROOM.false, c.put_head-at.auto.out) },
     )
 

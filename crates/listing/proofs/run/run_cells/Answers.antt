@@ -65,7 +65,7 @@ run_rights-requires c =
     let first = c.cells_at-cells.new.first in
     let long : length (take n first) ≡ n = length-take-le n first (omega (arith, c.cells_at-cells.ensures.few, c.cells_at-cells.auto.first)) in
     record {
-      sizes = (a.0, a.1, a.2, omega (arith, c.cells_at-cells.ensures.few), a.3, a.4);
+      sizes = (a.0, a.1, a.2, omega (arith, c.cells_at-cells.ensures.few), a.3);
       zeros = (
         rw (long, c.filled-rights.ensures) (zeros_part _ 8192 (entries k)),
         rw (long, c.filled-grants.ensures) (zeros_part _ 8192 (entries k)),

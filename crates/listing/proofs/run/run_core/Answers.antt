@@ -28,10 +28,10 @@ inside c =
 pub returns-in_default : goal.returns-in_default
 returns-in_default c =
     let a = c.args in
-    let core = core_row a.s.now a.next in
+    let core = core_row a.s.bytes.now a.next in
     record {
-      puts = rw (← core_wrong a.s.now a.line _ core (no_row core c.in_default.ensures)) c.put_bad.ensures.puts;
-      ends = omega (arith, c.put_bad.ensures.ends, c.requires.6.head);
+      puts = rw (← core_wrong a.s.bytes.now a.line _ core (no_row core c.in_default.ensures)) c.put_bad.ensures.puts;
+      ends = omega (arith, c.put_bad.ensures.ends, c.requires.5.head);
     }
 
 pub returns-then-dos-s : goal.returns-then-dos-s
@@ -40,11 +40,11 @@ returns-then-dos-s c =
     record {
       puts = rw (
         found_row _ c.in-Some.ensures,
-        ← dos_wrong c.args.s.now c.args.line _ (row_of c.in-Some.core) refl (done dos)
+        ← dos_wrong c.args.s.bytes.now c.args.line _ (row_of c.in-Some.core) refl (done dos)
             c.dos_at-dos.ensures.value c.if-dos-s.true,
       )
           c.put_bad-then-dos-s.ensures.puts;
-      ends = omega (arith, c.put_bad-then-dos-s.ensures.ends, c.requires.6.head);
+      ends = omega (arith, c.put_bad-then-dos-s.ensures.ends, c.requires.5.head);
     }
 
 pub slice_bounds-run_instructions-end : goal.slice_bounds-run_instructions-end
@@ -58,7 +58,7 @@ run_instructions-requires c =
     let asked = c.requires in
     record {
       answers = (filled_long 5957 c.filled-numbers.ensures, filled_long 5957 c.filled-values.ensures);
-      sizes = (asked.0, asked.1, asked.2, asked.3, length-take-le _ _ (inside dos), c.dos_at-dos.ensures.few, asked.6);
+      sizes = (asked.0, asked.1, asked.2, asked.3, length-take-le _ _ (inside dos), c.dos_at-dos.ensures.few, asked.5);
     }
 
 pub returns : goal.returns
@@ -67,7 +67,7 @@ returns c =
     record {
       puts = rw (
         found_row _ c.in-Some.ensures,
-        ← dos_right c.args.s.now c.args.line _ (row_of c.in-Some.core) refl (done dos)
+        ← dos_right c.args.s.bytes.now c.args.line _ (row_of c.in-Some.core) refl (done dos)
             c.dos_at-dos.ensures.value c.if-dos-s.false,
       )
           c.run_instructions.ensures.puts;

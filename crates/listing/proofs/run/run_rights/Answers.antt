@@ -27,17 +27,17 @@ bytes_long c = sym (ap (length {A = ℕ}) c.requires.zeros.2 ∙ length-replicat
 pub fill-a-requires-clause-inside : goal.fill-a-requires-clause-inside
 fill-a-requires-clause-inside c = λ at e post.
     let a = (goal.at.fill-a-requires-clause-inside c).Start in
-    omega (arith, rights_long a, right_key (length c.args.tables.now.first.now) c.args.tables.now.m c.args.s.now at {e = e} (search rules))
+    omega (arith, rights_long a, right_key (length c.args.tables.now.first.now) c.args.tables.now.m c.args.s.bytes.now at {e = e} (search rules))
 
 pub fill-b-requires-clause-inside : goal.fill-b-requires-clause-inside
 fill-b-requires-clause-inside c = λ at e post.
     let a = (goal.at.fill-b-requires-clause-inside c).Start in
-    omega (arith, grants_long a, grant_key (length c.args.tables.now.first.now) c.args.tables.now.m c.args.s.now at {e = e} (search rules))
+    omega (arith, grants_long a, grant_key (length c.args.tables.now.first.now) c.args.tables.now.m c.args.s.bytes.now at {e = e} (search rules))
 
 pub fill-c-requires-clause-inside : goal.fill-c-requires-clause-inside
 fill-c-requires-clause-inside c = λ at e post.
     let a = (goal.at.fill-c-requires-clause-inside c).Start in
-    omega (arith, bytes_long a, byte_key c.args.l c.args.s.now at {e = e} (search rules))
+    omega (arith, bytes_long a, byte_key c.args.l c.args.s.bytes.now at {e = e} (search rules))
 
 pub overflow_add-line : goal.overflow_add-line
 overflow_add-line c =
@@ -45,11 +45,11 @@ overflow_add-line c =
 
 pub overflow_add-line-2 : goal.overflow_add-line-2
 overflow_add-line-2 c =
-    omega (arith, c.requires.sizes.3, c.requires.sizes.4, c.fill-a.ensures.few)
+    omega (arith, c.requires.sizes.3, c.args.s.short, c.fill-a.ensures.few)
 
 pub overflow_add-line-3 : goal.overflow_add-line-3
 overflow_add-line-3 c =
-    omega (arith, c.requires.sizes.3, c.requires.sizes.4, c.fill-a.ensures.few, c.fill-b.ensures.few)
+    omega (arith, c.requires.sizes.3, c.args.s.short, c.fill-a.ensures.few, c.fill-b.ensures.few)
 
 -- so many lines stand before the core at most
 few_lines : (b : After-fill-c)
@@ -58,7 +58,7 @@ few_lines : (b : After-fill-c)
     ≤ 262144
 few_lines b =
     omega
-    (arith, b.requires.sizes.3, b.requires.sizes.4, b.fill-a.ensures.few, b.fill-b.ensures.few, b.fill-c.ensures.few)
+    (arith, b.requires.sizes.3, b.args.s.short, b.fill-a.ensures.few, b.fill-b.ensures.few, b.fill-c.ensures.few)
 
 pub overflow_add-line-4 : goal.overflow_add-line-4
 overflow_add-line-4 c =
@@ -73,9 +73,8 @@ run_core-requires c =
       c.requires.sizes.1,
       omega (arith, entries a, rights_long a, c.fill-a.auto.list),
       omega (arith, entries a, grants_long a, c.fill-b.auto.list),
-      c.requires.sizes.4,
       few_lines b,
-      c.requires.sizes.5,
+      c.requires.sizes.4,
     )
 
 pub returns : goal.returns
@@ -83,7 +82,7 @@ returns c =
     let a = c.args in
     let n = length a.tables.now.first.now in
     let m = a.tables.now.m in
-    let s = a.s.now in
+    let s = a.s.bytes.now in
     let rights =
     filled_plain _ _ _ _ _ _ (c.fill-a.ensures.filled (λ x. x) (right_at n m s) (λ at r post. told (right_at n m s at) r (search rules))) in
     let grants =
