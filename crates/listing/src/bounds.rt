@@ -7,3 +7,12 @@ pub struct ShortText<'a> {
     pub bytes: &'a [u8],
     ghost short: { length bytes.now ≤ 65536 },
 }
+
+// What a size line names: M divisions, and L bytes of memory.
+#[derive(Clone, Copy)]
+pub struct Size {
+    pub m: u32,
+    pub l: u32,
+    ghost divisions: { (1 ≤ m) × (m ≤ 32) },
+    ghost bytes: { l ≤ 65536 },
+}

@@ -4,6 +4,7 @@ ghost use Rattle.listing.specs.Lines.{Entry as Line, right_at, grant_at, byte_at
 ghost use Rattle.listing.specs.Listing.{entries_at};
 ghost use Rattle.listing.specs.Reading.{Reads, FilledAs};
 
+use crate::bounds::Size;
 use crate::lines::{Passed, byte_row, grant_row, right_row};
 
 // What a line names.
@@ -14,39 +15,38 @@ pub struct Entry<T> {
     pub value: T,
 }
 
-// Of n cells and m divisions.
+// Of n cells.
 #[tactic(auto, using(text::proofs::Lines::no_row, text::proofs::Lines::found_row, crate::proofs::Rows::rights_below), unfolding(crate::specs::Lines::right_at))]
-pub fn right_at(s: &[u8], at: usize, n: u32, m: u32) -> Option<Entry<u8>>
-    requires { (n ≤ 256) × (m ≤ 32) }
-    ensures { result ≡ option_of_entry (right_at n m s.now at) }
+pub fn right_at(s: &[u8], at: usize, n: u32, size: Size) -> Option<Entry<u8>>
+    requires { n ≤ 256 }
+    ensures { result ≡ option_of_entry (right_at n size.m s.now at) }
 {
-    let row = right_row(s, at, n, m)?;
+    let row = right_row(s, at, n, size.m)?;
     Some(Entry {
         next: row.next,
-        key: row.v[0] as usize * m as usize + row.v[1] as usize,
+        key: row.v[0] as usize * size.m as usize + row.v[1] as usize,
         value: row.v[2] as u8,
     })
 }
 
 #[tactic(auto, using(text::proofs::Lines::no_row, text::proofs::Lines::found_row, crate::proofs::Rows::grant_below, crate::proofs::Rows::target_most), unfolding(crate::specs::Lines::grant_at))]
-pub fn grant_at(s: &[u8], at: usize, n: u32, m: u32) -> Option<Entry<u16>>
-    requires { (n ≤ 256) × (m ≤ 32) }
-    ensures { result ≡ option_of_entry (grant_at n m s.now at) }
+pub fn grant_at(s: &[u8], at: usize, n: u32, size: Size) -> Option<Entry<u16>>
+    requires { n ≤ 256 }
+    ensures { result ≡ option_of_entry (grant_at n size.m s.now at) }
 {
-    let row = grant_row(s, at, n, m)?;
+    let row = grant_row(s, at, n, size.m)?;
     Some(Entry {
         next: row.next,
-        key: row.v[0] as usize * m as usize + row.v[1] as usize,
+        key: row.v[0] as usize * size.m as usize + row.v[1] as usize,
         value: (row.v[2] + 256 * row.v[3]) as u16,
     })
 }
 
-// In a memory of l bytes.
 #[tactic(auto, using(text::proofs::Lines::no_row, text::proofs::Lines::found_row, crate::proofs::Rows::byte_below), unfolding(crate::specs::Lines::byte_at))]
-pub fn byte_at(s: &[u8], at: usize, l: u32) -> Option<Entry<u8>>
-    ensures { result ≡ option_of_entry (byte_at l s.now at) }
+pub fn byte_at(s: &[u8], at: usize, size: Size) -> Option<Entry<u8>>
+    ensures { result ≡ option_of_entry (byte_at size.l s.now at) }
 {
-    let row = byte_row(s, at, l)?;
+    let row = byte_row(s, at, size.l)?;
     Some(Entry {
         next: row.next,
         key: row.v[0] as usize,

@@ -9,7 +9,7 @@ ghost use Rattle.listing.specs.Listing.{run as the_run, from_core, from_rights, 
 ghost use Rattle.listing.specs.Output.{body_of};
 ghost use Rattle.listing.specs.Reading.{Roomy, output_room, written_in};
 
-use crate::bounds::ShortText;
+use crate::bounds::{ShortText, Size};
 use crate::cells::cells_at;
 use crate::dos::dos_at;
 use crate::entries::{byte_at, fill, grant_at, right_at};
@@ -100,16 +100,16 @@ fn run_core(
 fn run_rights(
     s: ShortText,
     next: usize,
-    l: u32,
+    size: Size,
     tables: &mut TablesMut,
     memory: &mut [u8],
     out: &mut [u8],
     at: usize,
 ) -> usize
-    requires sizes { (1 ≤ tables.old.m) × (tables.old.m ≤ 32) × (l ≤ 65536) × (length tables.old.first.now ≤ 256) × Roomy at out.old }
-    requires zeros { (tables.old.rights.now ≡ zeros (length tables.old.first.now * tables.old.m))
-        × (tables.old.grants.now ≡ zeros (length tables.old.first.now * tables.old.m)) × (memory.old ≡ zeros l) }
-    ensures puts { Puts out at (body_of (from_rights s.entry.bytes.now tables.old.m l (record {
+    requires sizes { (tables.old.m ≡ size.m) × (length tables.old.first.now ≤ 256) × Roomy at out.old }
+    requires zeros { (tables.old.rights.now ≡ zeros (length tables.old.first.now * size.m))
+        × (tables.old.grants.now ≡ zeros (length tables.old.first.now * size.m)) × (memory.old ≡ zeros size.l) }
+    ensures puts { Puts out at (body_of (from_rights s.entry.bytes.now size.m size.l (record {
       next = next;
       first = tables.old.first.now;
       last = tables.old.last.now;
@@ -120,20 +120,19 @@ fn run_rights(
 {
     let n = tables.first.len();
     let cells = n as u32;
-    let m = tables.m as u32;
     let text = s.bytes;
     let most = text.len();
-    let a = fill(|at| right_at(text, at, cells, m), most, next, tables.rights);
-    let b = fill(|at| grant_at(text, at, cells, m), most, a.next, tables.grants);
-    let c = fill(|at| byte_at(text, at, l), most, b.next, memory);
+    let a = fill(|at| right_at(text, at, cells, size), most, next, tables.rights);
+    let b = fill(|at| grant_at(text, at, cells, size), most, a.next, tables.grants);
+    let c = fill(|at| byte_at(text, at, size), most, b.next, memory);
     let line = 2 + n + a.count + b.count + c.count;
     run_core(s, c.next, line, tables, memory, out, at)
 }
 
 // From the cell lines on, with the lists at their largest, of which the parts that the size line asks for are lent on.
-fn run_cells(s: ShortText, next: usize, m: u32, l: u32, out: &mut [u8], at: usize) -> usize
-    requires { (1 ≤ m) × (m ≤ 32) × (l ≤ 65536) × Roomy at out.old }
-    ensures puts { Puts out at (body_of (from_rights s.entry.bytes.now m l (cells_at s.entry.bytes.now next))) result }
+fn run_cells(s: ShortText, next: usize, size: Size, out: &mut [u8], at: usize) -> usize
+    requires { Roomy at out.old }
+    ensures puts { Puts out at (body_of (from_rights s.entry.bytes.now size.m size.l (cells_at s.entry.bytes.now next))) result }
     ensures ends { result ≤ output_room }
 {
     let mut first = [0u32; 256];
@@ -145,9 +144,9 @@ fn run_cells(s: ShortText, next: usize, m: u32, l: u32, out: &mut [u8], at: usiz
     let mut memory = filled::<u8, 65536>(0);
     let cells = cells_at(s.bytes, next, &mut first, &mut last, &mut offset, &mut marks);
     let n = cells.count;
-    let m = m as usize;
+    let m = size.m as usize;
     let entries = n * m;
-    let bytes = l as usize;
+    let bytes = size.l as usize;
     let mut tables = TablesMut {
         m,
         first: &first[..n],
@@ -157,7 +156,7 @@ fn run_cells(s: ShortText, next: usize, m: u32, l: u32, out: &mut [u8], at: usiz
         rights: &mut rights[..entries],
         grants: &mut grants[..entries],
     };
-    run_rights(s, cells.next, l, &mut tables, &mut memory[..bytes], out, at)
+    run_rights(s, cells.next, size, &mut tables, &mut memory[..bytes], out, at)
 }
 
 // What `cellrun` writes of the text `s`, to the front of `out`, and how long it is. Where `out` has not the 532,480 bytes that
@@ -176,9 +175,13 @@ pub fn cellrun(s: &[u8], out: &mut [u8]) -> usize
     let Some(head) = head_row(s, 0) else {
         return put_bad(out, at, 1);
     };
-    let Some(size) = size_row(s, head.next) else {
+    let Some(row) = size_row(s, head.next) else {
         return put_bad(out, at, 2);
     };
     let text = ShortText { bytes: s };
-    run_cells(text, size.next, size.v[0], size.v[1], out, at)
+    let size = Size {
+        m: row.v[0],
+        l: row.v[1],
+    };
+    run_cells(text, row.next, size, out, at)
 }

@@ -50,17 +50,19 @@ returns-in_default-size_row c =
     (put_then c.put_head-at.ensures.puts bad.puts)) in
     record { puts = all.0; ends = all.1 }
 
-pub run_cells-requires : goal.run_cells-requires
-run_cells-requires c =
+pub invariant_of-size : goal.invariant_of-size
+invariant_of-size c =
     let s = c.args.s.now in
     let size = size_row s c.in-Some.head.next in
     let e = found_row size c.in-Some-size_row.ensures in
-    let few = size_divisions s c.in-Some.head.next (ap (λ (r : Row). r.ok) e) in (
-      rw e at few.0,
-      rw e at few.1,
-      rw e at (size_bytes s c.in-Some.head.next),
-      record { head = c.put_head-at.ensures.ends; room = omega (arith, c.if-out-lt-ROOM.false, c.put_head-at.auto.out) },
-    )
+    record {
+      divisions = rw e at (size_divisions s c.in-Some.head.next (ap (λ (r : Row). r.ok) e));
+      bytes = rw e at (size_bytes s c.in-Some.head.next);
+    }
+
+pub run_cells-requires : goal.run_cells-requires
+run_cells-requires c =
+    record { head = c.put_head-at.ensures.ends; room = omega (arith, c.if-out-lt-ROOM.false, c.put_head-at.auto.out) }
 
 pub returns : goal.returns
 returns c =
@@ -71,6 +73,6 @@ returns c =
     let all =
     ends_inside room rest.ends
     (rw (← size_right _ s room (omega arith) (row_of head) (sym (found_row (head_row s 0) c.in-Some.ensures)) refl
-    (row_of c.in-Some-size_row.size) (sym (found_row (size_row s head.next) c.in-Some-size_row.ensures)) refl)
+    (row_of c.in-Some-size_row.row) (sym (found_row (size_row s head.next) c.in-Some-size_row.ensures)) refl)
     (put_then c.put_head-at.ensures.puts rest.puts)) in
     record { puts = all.0; ends = all.1 }

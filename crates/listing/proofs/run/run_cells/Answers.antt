@@ -1,5 +1,5 @@
 use Prim.Native.Nat.{◌*◌, ◌≤◌}
-use mathlib.Core.Path.{◌≡◌, sym}
+use mathlib.Core.Path.{◌≡◌, refl, sym}
 use lib.ListN.{length, take}
 use native.Mathlib.Omega.{arith}
 use lib.Seq.{length-take-le}
@@ -9,8 +9,8 @@ use Rattle.listing.proofs.run.run_cells.Goals as goal
 use Rattle.listing.proofs.run.run_cells.Goals.{After-cells_at-cells}
 
 -- as many entries as there are cells and divisions
-entries : (c : After-cells_at-cells) → c.cells_at-cells.result.count * c.args.m ≤ 8192
-entries c = product_small _ _ c.cells_at-cells.ensures.few c.requires.1
+entries : (c : After-cells_at-cells) → c.cells_at-cells.result.count * c.args.size.m ≤ 8192
+entries c = product_small _ _ c.cells_at-cells.ensures.few c.args.size.divisions.1
 
 pub overflow_mul-entries : goal.overflow_mul-entries
 overflow_mul-entries c =
@@ -55,21 +55,20 @@ slice_bounds-tables-end-6 c =
 
 pub slice_bounds-run_rights-end : goal.slice_bounds-run_rights-end
 slice_bounds-run_rights-end c =
-    rw c.filled-memory.ensures (part_long _ 65536 c.requires.2)
+    rw c.filled-memory.ensures (part_long _ 65536 c.args.size.bytes)
 
 pub run_rights-requires : goal.run_rights-requires
 run_rights-requires c =
     let k = (goal.at.run_rights-requires c).After-cells_at-cells in
-    let a = c.requires in
     let n = c.cells_at-cells.result.count in
     let first = c.cells_at-cells.new.first in
     let long : length (take n first) ≡ n = length-take-le n first (omega (arith, c.cells_at-cells.ensures.few, c.cells_at-cells.auto.first)) in
     record {
-      sizes = (a.0, a.1, a.2, omega (arith, c.cells_at-cells.ensures.few), a.3);
+      sizes = (refl, omega (arith, c.cells_at-cells.ensures.few), c.requires);
       zeros = (
         rw (long, c.filled-rights.ensures) (zeros_part _ 8192 (entries k)),
         rw (long, c.filled-grants.ensures) (zeros_part _ 8192 (entries k)),
-        rw c.filled-memory.ensures (zeros_part _ 65536 a.2),
+        rw c.filled-memory.ensures (zeros_part _ 65536 c.args.size.bytes),
       );
     }
 
