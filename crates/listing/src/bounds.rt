@@ -1,5 +1,7 @@
 // What a listing keeps within bounds. A value of these types is within them, so that no function asks for it again.
-ghost use Rattle.std.specs.Prelude.{◌≤◌, length};
+ghost use Rattle.std.specs.Prelude.{◌≡◌, ◌≤◌, length};
+
+use rules::TablesMut;
 
 // A text of no more bytes than a listing may have.
 #[derive(Clone, Copy)]
@@ -15,4 +17,14 @@ pub struct Size {
     pub l: u32,
     ghost divisions: { (1 ≤ m) × (m ≤ 32) },
     ghost bytes: { l ≤ 65536 },
+}
+
+// The tables and the memory of a listing, which are of its size.
+#[derive(Drop)]
+pub struct Loaded<'a> {
+    pub size: Size,
+    pub tables: TablesMut<'a>,
+    pub memory: &'a mut [u8],
+    ghost same: { tables.m ≡ size.m },
+    ghost entries: { (length tables.rights.now ≤ 8192) × (length tables.grants.now ≤ 8192) },
 }

@@ -6,7 +6,8 @@ ghost use Rattle.listing.specs.Words.{bad_word, cells_word};
 ghost use Rattle.listing.specs.Output.{line1, lines_of, core_line, right_line, grant_line, state_lines};
 ghost use Rattle.listing.specs.Reading.{answer_of, Writes};
 
-use rules::{Registers, Tables};
+use crate::bounds::{Loaded, Size};
+use rules::Registers;
 use text::put_row;
 
 // What `line` writes of each entry of the list, numbered from 0, one behind the other: whatever text the calls tell of an
@@ -69,53 +70,55 @@ pub fn put_core(out: &mut [u8], at: usize, r: Registers) -> usize
 
 // `right`, cell, division and rights of the entry e, unless it is 0.
 #[tactic(auto, unfolding(crate::specs::Output::right_line))]
-fn put_right(out: &mut [u8], at: usize, m: usize, e: usize, right: u8) -> usize
-    requires { (1 ≤ m) × (m ≤ 32) × (e ≤ 8191) }
+fn put_right(out: &mut [u8], at: usize, size: Size, e: usize, right: u8) -> usize
+    requires { e ≤ 8191 }
     ensures { (rights : List ℕ) → right ≡ get_or rights e 0 → at + 39 ≤ length out.old
-        → Puts out at (right_line m rights e) result × (result ≤ at + 18) }
+        → Puts out at (right_line size.m rights e) result × (result ≤ at + 18) }
 {
     if right == 0 {
         return at;
     }
+    let e = e as u32;
     put_row(
         out,
         at,
         b"right",
-        &[(e / m) as u32, (e % m) as u32, u32::from(right)],
+        &[e / size.m, e % size.m, u32::from(right)],
     )
 }
 
 // `grant`, cell, the division that made it, the one that it is to, and rights, of the entry e, unless it is 0.
 #[tactic(auto, unfolding(crate::specs::Output::grant_line))]
-fn put_grant(out: &mut [u8], at: usize, m: usize, e: usize, grant: u16) -> usize
-    requires { (1 ≤ m) × (m ≤ 32) × (e ≤ 8191) }
+fn put_grant(out: &mut [u8], at: usize, size: Size, e: usize, grant: u16) -> usize
+    requires { e ≤ 8191 }
     ensures { (grants : List ℕ) → grant ≡ get_or grants e 0 → at + 50 ≤ length out.old
-        → Puts out at (grant_line m grants e) result × (result ≤ at + 22) }
+        → Puts out at (grant_line size.m grants e) result × (result ≤ at + 22) }
 {
     if grant == 0 {
         return at;
     }
+    let e = e as u32;
     let grant = u32::from(grant);
     put_row(
         out,
         at,
         b"grant",
-        &[(e / m) as u32, (e % m) as u32, grant % 256, grant / 256],
+        &[e / size.m, e % size.m, grant % 256, grant / 256],
     )
 }
 
 // The state after a run: the core, and the rights and grants that are not 0.
-pub fn put_state(out: &mut [u8], at: usize, r: Registers, tables: Tables) -> usize
-    requires { (1 ≤ tables.m) × (tables.m ≤ 32) × (length tables.rights.now ≤ 8192) × (length tables.grants.now ≤ 8192) × (at + 327746 ≤ length out.old) }
-    ensures puts { Puts out at (state_lines r tables.entry.m tables.entry.rights.now tables.entry.grants.now) result }
+pub fn put_state(out: &mut [u8], at: usize, r: Registers, loaded: &Loaded) -> usize
+    requires { at + 327746 ≤ length out.old }
+    ensures puts { Puts out at (state_lines r loaded.now.tables.m loaded.now.tables.rights.now loaded.now.tables.grants.now) result }
     ensures ends { result ≤ at + 327718 }
 {
-    let m = tables.m;
+    let size = loaded.size;
     let core = put_core(out, at, r);
-    let rights = put_lines(out, core, tables.rights, |out, at, e, right| {
-        put_right(out, at, m, e, right)
+    let rights = put_lines(out, core, loaded.tables.rights, |out, at, e, right| {
+        put_right(out, at, size, e, right)
     });
-    put_lines(out, rights, tables.grants, |out, at, e, grant| {
-        put_grant(out, at, m, e, grant)
+    put_lines(out, rights, loaded.tables.grants, |out, at, e, grant| {
+        put_grant(out, at, size, e, grant)
     })
 }

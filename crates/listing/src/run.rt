@@ -9,7 +9,7 @@ ghost use Rattle.listing.specs.Listing.{run as the_run, from_core, from_rights, 
 ghost use Rattle.listing.specs.Output.{body_of};
 ghost use Rattle.listing.specs.Reading.{Roomy, output_room, written_in};
 
-use crate::bounds::{ShortText, Size};
+use crate::bounds::{Loaded, ShortText, Size};
 use crate::cells::cells_at;
 use crate::dos::dos_at;
 use crate::entries::{byte_at, fill, grant_at, right_at};
@@ -30,8 +30,7 @@ fn filled<T: Copy, const N: usize>(value: T) -> [T; N]
 
 // Runs the instructions, four numbers each, and writes their answers and the state after them; the place after.
 fn run_instructions(
-    tables: &mut TablesMut,
-    memory: &mut [u8],
+    loaded: &mut Loaded,
     registers: Registers,
     instructions: &[u32],
     count: usize,
@@ -41,14 +40,20 @@ fn run_instructions(
     at: usize,
 ) -> usize
     requires answers { (length numbers.old ≡ 5957) × (length values.old ≡ 5957) }
-    requires sizes { (1 ≤ tables.old.m) × (tables.old.m ≤ 32) × (length tables.old.rights.now ≤ 8192) × (length tables.old.grants.now ≤ 8192)
-        × (length instructions.now ≡ 4 * count) × (count ≤ 5957) × Roomy at out.old }
-    ensures puts { Puts out at (body_of (the_run (state (lent_mut tables.old memory.old) registers) count instructions.now)) result }
+    requires sizes { (length instructions.now ≡ 4 * count) × (count ≤ 5957) × Roomy at out.old }
+    ensures puts { Puts out at (body_of (the_run (state (lent_mut loaded.old.tables loaded.old.memory.now) registers) count instructions.now)) result }
     ensures ends { result ≤ output_room }
 {
-    let after = execute_all(tables, memory, registers, instructions, numbers, values);
+    let after = execute_all(
+        &mut loaded.tables,
+        loaded.memory,
+        registers,
+        instructions,
+        numbers,
+        values,
+    );
     let end = put_answers(out, at, &numbers[..count], &values[..count]);
-    put_state(out, end, after, tables.tables())
+    put_state(out, end, after, loaded)
 }
 
 // From the core line on, behind `line` lines.
@@ -56,14 +61,12 @@ fn run_core(
     s: ShortText,
     next: usize,
     line: usize,
-    tables: &mut TablesMut,
-    memory: &mut [u8],
+    loaded: &mut Loaded,
     out: &mut [u8],
     at: usize,
 ) -> usize
-    requires { (1 ≤ tables.old.m) × (tables.old.m ≤ 32) × (length tables.old.rights.now ≤ 8192) × (length tables.old.grants.now ≤ 8192)
-        × (line ≤ 262144) × Roomy at out.old }
-    ensures puts { Puts out at (body_of (from_core s.entry.bytes.now line (lent_mut tables.old memory.old) (core_row s.entry.bytes.now next))) result }
+    requires { (line ≤ 262144) × Roomy at out.old }
+    ensures puts { Puts out at (body_of (from_core s.entry.bytes.now line (lent_mut loaded.old.tables loaded.old.memory.now) (core_row s.entry.bytes.now next))) result }
     ensures ends { result ≤ output_room }
 {
     let Some(core) = core_row(s.bytes, next) else {
@@ -84,8 +87,7 @@ fn run_core(
     let mut numbers = filled::<u32, 5957>(0);
     let mut values = filled::<u32, 5957>(0);
     run_instructions(
-        tables,
-        memory,
+        loaded,
         registers,
         &list[..end],
         count,
@@ -97,36 +99,40 @@ fn run_core(
 }
 
 // From the right lines on, into lists of zeros.
-fn run_rights(
-    s: ShortText,
-    next: usize,
-    size: Size,
-    tables: &mut TablesMut,
-    memory: &mut [u8],
-    out: &mut [u8],
-    at: usize,
-) -> usize
-    requires sizes { (tables.old.m ≡ size.m) × (length tables.old.first.now ≤ 256) × Roomy at out.old }
-    requires zeros { (tables.old.rights.now ≡ zeros (length tables.old.first.now * size.m))
-        × (tables.old.grants.now ≡ zeros (length tables.old.first.now * size.m)) × (memory.old ≡ zeros size.l) }
-    ensures puts { Puts out at (body_of (from_rights s.entry.bytes.now size.m size.l (record {
+fn run_rights(s: ShortText, next: usize, loaded: &mut Loaded, out: &mut [u8], at: usize) -> usize
+    requires sizes { (length loaded.old.tables.first.now ≤ 256) × Roomy at out.old }
+    requires zeros { (loaded.old.tables.rights.now ≡ zeros (length loaded.old.tables.first.now * loaded.old.size.m))
+        × (loaded.old.tables.grants.now ≡ zeros (length loaded.old.tables.first.now * loaded.old.size.m)) × (loaded.old.memory.now ≡ zeros loaded.old.size.l) }
+    ensures puts { Puts out at (body_of (from_rights s.entry.bytes.now loaded.old.size.m loaded.old.size.l (record {
       next = next;
-      first = tables.old.first.now;
-      last = tables.old.last.now;
-      offset = tables.old.offset.now;
-      marks = tables.old.marks.now;
+      first = loaded.old.tables.first.now;
+      last = loaded.old.tables.last.now;
+      offset = loaded.old.tables.offset.now;
+      marks = loaded.old.tables.marks.now;
     }))) result }
     ensures ends { result ≤ output_room }
 {
-    let n = tables.first.len();
+    let n = loaded.tables.first.len();
+    let size = loaded.size;
     let cells = n as u32;
     let text = s.bytes;
     let most = text.len();
-    let a = fill(|at| right_at(text, at, cells, size), most, next, tables.rights);
-    let b = fill(|at| grant_at(text, at, cells, size), most, a.next, tables.grants);
-    let c = fill(|at| byte_at(text, at, size), most, b.next, memory);
+    let tables = &mut loaded.tables;
+    let a = fill(
+        |at| right_at(text, at, cells, size),
+        most,
+        next,
+        tables.rights,
+    );
+    let b = fill(
+        |at| grant_at(text, at, cells, size),
+        most,
+        a.next,
+        tables.grants,
+    );
+    let c = fill(|at| byte_at(text, at, size), most, b.next, loaded.memory);
     let line = 2 + n + a.count + b.count + c.count;
-    run_core(s, c.next, line, tables, memory, out, at)
+    run_core(s, c.next, line, loaded, out, at)
 }
 
 // From the cell lines on, with the lists at their largest, of which the parts that the size line asks for are lent on.
@@ -142,12 +148,19 @@ fn run_cells(s: ShortText, next: usize, size: Size, out: &mut [u8], at: usize) -
     let mut rights = filled::<u8, 8192>(0);
     let mut grants = filled::<u16, 8192>(0);
     let mut memory = filled::<u8, 65536>(0);
-    let cells = cells_at(s.bytes, next, &mut first, &mut last, &mut offset, &mut marks);
+    let cells = cells_at(
+        s.bytes,
+        next,
+        &mut first,
+        &mut last,
+        &mut offset,
+        &mut marks,
+    );
     let n = cells.count;
     let m = size.m as usize;
     let entries = n * m;
     let bytes = size.l as usize;
-    let mut tables = TablesMut {
+    let tables = TablesMut {
         m,
         first: &first[..n],
         last: &last[..n],
@@ -156,7 +169,12 @@ fn run_cells(s: ShortText, next: usize, size: Size, out: &mut [u8], at: usize) -
         rights: &mut rights[..entries],
         grants: &mut grants[..entries],
     };
-    run_rights(s, cells.next, size, &mut tables, &mut memory[..bytes], out, at)
+    let mut loaded = Loaded {
+        size,
+        tables,
+        memory: &mut memory[..bytes],
+    };
+    run_rights(s, cells.next, &mut loaded, out, at)
 }
 
 // What `cellrun` writes of the text `s`, to the front of `out`, and how long it is. Where `out` has not the 532,480 bytes that

@@ -1,5 +1,5 @@
 use Prim.Native.Nat.{◌*◌, ◌≤◌}
-use mathlib.Core.Path.{◌≡◌, refl, sym}
+use mathlib.Core.Path.{◌≡◌, sym}
 use lib.ListN.{length, take}
 use native.Mathlib.Omega.{arith}
 use lib.Seq.{length-take-le}
@@ -53,8 +53,8 @@ slice_bounds-tables-end-6 c =
     let k = (goal.at.slice_bounds-tables-end-6 c).After-cells_at-cells in
     rw c.filled-grants.ensures (part_long _ 8192 (entries k))
 
-pub slice_bounds-run_rights-end : goal.slice_bounds-run_rights-end
-slice_bounds-run_rights-end c =
+pub slice_bounds-loaded-end : goal.slice_bounds-loaded-end
+slice_bounds-loaded-end c =
     rw c.filled-memory.ensures (part_long _ 65536 c.args.size.bytes)
 
 pub run_rights-requires : goal.run_rights-requires
@@ -64,7 +64,7 @@ run_rights-requires c =
     let first = c.cells_at-cells.new.first in
     let long : length (take n first) ≡ n = length-take-le n first (omega (arith, c.cells_at-cells.ensures.few, c.cells_at-cells.auto.first)) in
     record {
-      sizes = (refl, omega (arith, c.cells_at-cells.ensures.few), c.requires);
+      sizes = (omega (arith, c.cells_at-cells.ensures.few), c.requires);
       zeros = (
         rw (long, c.filled-rights.ensures) (zeros_part _ 8192 (entries k)),
         rw (long, c.filled-grants.ensures) (zeros_part _ 8192 (entries k)),

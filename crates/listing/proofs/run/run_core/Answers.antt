@@ -31,7 +31,7 @@ returns-in_default c =
     let core = core_row a.s.bytes.now a.next in
     record {
       puts = rw (← core_wrong a.s.bytes.now a.line _ core (no_row core c.in_default.ensures)) c.put_bad.ensures.puts;
-      ends = omega (arith, c.put_bad.ensures.ends, c.requires.5.head);
+      ends = omega (arith, c.put_bad.ensures.ends, c.requires.1.head);
     }
 
 pub returns-then-dos-s : goal.returns-then-dos-s
@@ -44,7 +44,7 @@ returns-then-dos-s c =
             c.dos_at-dos.ensures.value c.if-dos-s.true,
       )
           c.put_bad-then-dos-s.ensures.puts;
-      ends = omega (arith, c.put_bad-then-dos-s.ensures.ends, c.requires.5.head);
+      ends = omega (arith, c.put_bad-then-dos-s.ensures.ends, c.requires.1.head);
     }
 
 pub slice_bounds-run_instructions-end : goal.slice_bounds-run_instructions-end
@@ -58,7 +58,7 @@ run_instructions-requires c =
     let asked = c.requires in
     record {
       answers = (filled_long 5957 c.filled-numbers.ensures, filled_long 5957 c.filled-values.ensures);
-      sizes = (asked.0, asked.1, asked.2, asked.3, length-take-le _ _ (inside dos), c.dos_at-dos.ensures.few, asked.5);
+      sizes = (length-take-le _ _ (inside dos), c.dos_at-dos.ensures.few, asked.1);
     }
 
 pub returns : goal.returns
