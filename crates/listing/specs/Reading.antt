@@ -1,11 +1,13 @@
 -- What the readers and writers answer, in the words of the listing. Assumes nothing.
-use Rattle.std.specs.Prelude.{ℕ, ◌+◌, ◌<◌, ◌≤◌, ◌≡◌, true, false, Option, Some, None, List, [], cond, length, get_or, leb}
+use Rattle.std.specs.Prelude.{ℕ, ◌+◌, ◌*◌, ◌<◌, ◌≤◌, ◌≡◌, true, false, Option, Some, None, List, [], cond, length, get_or, leb}
 use Rattle.std.specs.Borrow.{MutBor}
 use Rattle.text.specs.Text.{Put}
 use Rattle.listing.specs.Words.{answer_word}
-use Rattle.listing.specs.Listing.{Entries}
+use Rattle.listing.specs.Listing.{Cells, Entries, zeros}
 use Rattle.listing.specs.Output.{line3, output_of}
 use Rattle.listing.specs.Lines.{Entry}
+use Rattle.rules.specs.declared.TablesMut.{TablesMut}
+use Rattle.listing.specs.declared.bounds.Loaded.{Loaded}
 use Rattle.listing.specs.declared.entries.Entry.{Entry as Found}
 use Rattle.listing.specs.declared.lines.Passed.{Passed}
 
@@ -23,6 +25,17 @@ pub record FilledAs (t : Entries) (r : Passed) (after : List ℕ) : Type 0 where
   pub counted : r.count ≡ t.count
   pub ended : r.next ≡ t.next
   pub filled : after ≡ t.list
+
+-- the cell lines whose numbers stand in the tables, and the place after them
+abbrev pub cells_in : (next : ℕ) → TablesMut → Cells
+cells_in next t =
+    record { next = next; first = t.first.now; last = t.last.now; offset = t.offset.now; marks = t.marks.now }
+
+-- no right, no grant and no byte is read yet: there is a zero for each
+pub record Blank (l : Loaded) : Type 0 where
+  pub rights : l.tables.rights.now ≡ zeros (length l.tables.first.now * l.size.m)
+  pub grants : l.tables.grants.now ≡ zeros (length l.tables.first.now * l.size.m)
+  pub bytes : l.memory.now ≡ zeros l.size.l
 
 -- the calls at the entries of a list write the text of each: `post` is what a call ensures of the buffer, the place, an entry's
 -- number and the entry, where it answers the place after and leaves the buffer. So they do where there is room for `most` bytes,

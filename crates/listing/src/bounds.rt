@@ -25,6 +25,7 @@ pub struct Loaded<'a> {
     pub size: Size,
     pub tables: TablesMut<'a>,
     pub memory: &'a mut [u8],
-    ghost same: { tables.m ≡ size.m },
+    ghost of_size: { tables.m ≡ size.m },
+    ghost cells: { length tables.first.now ≤ 256 },
     ghost entries: { (length tables.rights.now ≤ 8192) × (length tables.grants.now ≤ 8192) },
 }

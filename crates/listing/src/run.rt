@@ -5,9 +5,9 @@ ghost use Rattle.text.specs.Text.{Puts, Ends};
 ghost use Rattle.rules.specs.Lent.{lent_mut};
 ghost use Rattle.rules.specs.Numbers.{state};
 ghost use Rattle.listing.specs.Lines.{core_row};
-ghost use Rattle.listing.specs.Listing.{run as the_run, from_core, from_rights, cells_at, zeros};
+ghost use Rattle.listing.specs.Listing.{run as the_run, from_core, from_rights, cells_at};
 ghost use Rattle.listing.specs.Output.{body_of};
-ghost use Rattle.listing.specs.Reading.{Roomy, output_room, written_in};
+ghost use Rattle.listing.specs.Reading.{Blank, Roomy, cells_in, output_room, written_in};
 
 use crate::bounds::{Loaded, ShortText, Size};
 use crate::cells::cells_at;
@@ -100,16 +100,9 @@ fn run_core(
 
 // From the right lines on, into lists of zeros.
 fn run_rights(s: ShortText, next: usize, loaded: &mut Loaded, out: &mut [u8], at: usize) -> usize
-    requires sizes { (length loaded.old.tables.first.now ≤ 256) × Roomy at out.old }
-    requires zeros { (loaded.old.tables.rights.now ≡ zeros (length loaded.old.tables.first.now * loaded.old.size.m))
-        × (loaded.old.tables.grants.now ≡ zeros (length loaded.old.tables.first.now * loaded.old.size.m)) × (loaded.old.memory.now ≡ zeros loaded.old.size.l) }
-    ensures puts { Puts out at (body_of (from_rights s.entry.bytes.now loaded.old.size.m loaded.old.size.l (record {
-      next = next;
-      first = loaded.old.tables.first.now;
-      last = loaded.old.tables.last.now;
-      offset = loaded.old.tables.offset.now;
-      marks = loaded.old.tables.marks.now;
-    }))) result }
+    requires blank { Blank loaded.old }
+    requires roomy { Roomy at out.old }
+    ensures puts { Puts out at (body_of (from_rights s.entry.bytes.now loaded.old.size.m loaded.old.size.l (cells_in next loaded.old.tables))) result }
     ensures ends { result ≤ output_room }
 {
     let n = loaded.tables.first.len();

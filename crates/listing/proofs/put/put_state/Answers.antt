@@ -20,6 +20,6 @@ returns c =
     let told : x ≡ get_or t.grants.now e 0 = is ∙ get_or_default t.grants.now e x 0 more in
     search rules) (omega arith) in
     record {
-      puts = rw c.args.loaded.now.same (put_then (put_then a.puts b.0) d.0);
+      puts = rw c.args.loaded.now.of_size (put_then (put_then a.puts b.0) d.0);
       ends = omega (arith, a.ends, b.1, d.1, c.args.loaded.now.entries.0, c.args.loaded.now.entries.1);
     }

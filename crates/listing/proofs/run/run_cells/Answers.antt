@@ -64,12 +64,12 @@ run_rights-requires c =
     let first = c.cells_at-cells.new.first in
     let long : length (take n first) ≡ n = length-take-le n first (omega (arith, c.cells_at-cells.ensures.few, c.cells_at-cells.auto.first)) in
     record {
-      sizes = (omega (arith, c.cells_at-cells.ensures.few), c.requires);
-      zeros = (
-        rw (long, c.filled-rights.ensures) (zeros_part _ 8192 (entries k)),
-        rw (long, c.filled-grants.ensures) (zeros_part _ 8192 (entries k)),
-        rw c.filled-memory.ensures (zeros_part _ 65536 c.args.size.bytes),
-      );
+      blank = record {
+        rights = rw (long, c.filled-rights.ensures) (zeros_part _ 8192 (entries k));
+        grants = rw (long, c.filled-grants.ensures) (zeros_part _ 8192 (entries k));
+        bytes = rw c.filled-memory.ensures (zeros_part _ 65536 c.args.size.bytes);
+      };
+      roomy = c.requires;
     }
 
 pub returns : goal.returns

@@ -1,4 +1,5 @@
-use mathlib.Core.Path.{◌≡◌, ◌∙◌}
+use mathlib.Core.Path.{◌≡◌, ap, ◌∙◌}
+use Prim.Native.Nat.{ℕ}
 use native.Mathlib.Omega.{arith}
 use lib.ListN.{length, take}
 use lib.Seq.{length-take-le}
@@ -17,7 +18,8 @@ pub invariant_of-loaded : goal.invariant_of-loaded
 invariant_of-loaded c =
     let kept = shape (goal.at.invariant_of-loaded c).After-execute_all-after in
     record {
-      same = kept.divisions ∙ c.args.loaded.now.same;
+      of_size = kept.divisions ∙ c.args.loaded.now.of_size;
+      cells = omega (arith, ap (length {A = ℕ}) kept.firsts, c.args.loaded.now.cells);
       entries = (omega (arith, kept.rights, c.args.loaded.now.entries.0), omega (arith, kept.grants, c.args.loaded.now.entries.1));
     }
 

@@ -1,4 +1,4 @@
-use Rattle.listing.specs.Listing.{Cells}
+use Rattle.listing.specs.Reading.{cells_in}
 use Rattle.std.proofs.Common.{rules}
 use Rattle.listing.specs.Lines.{right_at, grant_at, byte_at}
 use native.Mathlib.Omega.{arith}
@@ -11,17 +11,17 @@ use Rattle.listing.proofs.run.run_rights.Goals as goal
 pub fill-a-requires-clause-inside : goal.fill-a-requires-clause-inside
 fill-a-requires-clause-inside c = λ at e post.
     let a = c.args.loaded.now in
-    omega (arith, filled_long _ c.requires.zeros.0, right_key (length a.tables.first.now) a.size.m c.args.s.bytes.now at {e = e} (search rules))
+    omega (arith, filled_long _ c.requires.blank.rights, right_key (length a.tables.first.now) a.size.m c.args.s.bytes.now at {e = e} (search rules))
 
 pub fill-b-requires-clause-inside : goal.fill-b-requires-clause-inside
 fill-b-requires-clause-inside c = λ at e post.
     let a = c.args.loaded.now in
-    omega (arith, filled_long _ c.requires.zeros.1, grant_key (length a.tables.first.now) a.size.m c.args.s.bytes.now at {e = e} (search rules))
+    omega (arith, filled_long _ c.requires.blank.grants, grant_key (length a.tables.first.now) a.size.m c.args.s.bytes.now at {e = e} (search rules))
 
 pub fill-c-requires-clause-inside : goal.fill-c-requires-clause-inside
 fill-c-requires-clause-inside c = λ at e post.
     let a = c.args.loaded.now in
-    omega (arith, filled_long _ c.requires.zeros.2, byte_key a.size.l c.args.s.bytes.now at {e = e} (search rules))
+    omega (arith, filled_long _ c.requires.blank.bytes, byte_key a.size.l c.args.s.bytes.now at {e = e} (search rules))
 
 pub returns-clause-puts : goal.returns-clause-puts
 returns-clause-puts c =
@@ -36,9 +36,8 @@ returns-clause-puts c =
     filled_plain _ _ _ _ _ _ (c.fill-b.ensures.filled (λ x. x) (grant_at n m s) (λ at r post. told (grant_at n m s at) r (search rules))) in
     let bytes =
     filled_plain _ _ _ _ _ _ (c.fill-c.ensures.filled (λ x. x) (byte_at l s) (λ at r post. told (byte_at l s at) r (search rules))) in
-    let cells : Cells = record { next = c.args.next; first = t.first.now; last = t.last.now; offset = t.offset.now; marks = t.marks.now } in
     let same =
-    rights_read s m l cells c.fill-a.result c.fill-b.result c.fill-c.result t.rights.now c.fill-a.new.list
-    t.grants.now c.fill-b.new.list c.args.loaded.now.memory.now c.fill-c.new.list c.requires.zeros.0 c.requires.zeros.1
-    c.requires.zeros.2 rights grants bytes in
-    rw (← same, ← c.args.loaded.now.same) c.run_core.ensures.puts
+    rights_read s m l (cells_in c.args.next t) c.fill-a.result c.fill-b.result c.fill-c.result t.rights.now c.fill-a.new.list
+    t.grants.now c.fill-b.new.list c.args.loaded.now.memory.now c.fill-c.new.list c.requires.blank.rights c.requires.blank.grants
+    c.requires.blank.bytes rights grants bytes in
+    rw (← same, ← c.args.loaded.now.of_size) c.run_core.ensures.puts
