@@ -4,16 +4,15 @@ use mathlib.Core.Path.{◌≡◌, refl, sym, ap, subst, ◌∙◌}
 use mathlib.Core.List.{List, [], ◌∷◌, ◌++◌}
 use mathlib.Core.Bool.{true, false}
 use native.Mathlib.Omega.{arith}
-use lib.ListN.{length, get_or, take, replicate, length-set, length-take, length-replicate}
+use lib.ListN.{length, get_or, take, replicate, length-set, length-replicate}
 use lib.Seq.{get_or-set_same, get_or-set_other, length-take-le}
 use Rattle.std.proofs.lemmas.List.{get_or-take}
 use lib.Dec.{eqb}
 use borrow.Author.Tests.{eqb-true, eqb-false, eq-eqb, ne_eqb, le-leb, lt-leb}
-use Rattle.text.specs.Text.{Put, Ends}
+use Rattle.text.specs.Text.{Put}
 use Rattle.text.specs.Line.{Row}
 use Rattle.text.proofs.Cases.{by_test}
 use Rattle.text.proofs.Writing.{put_then}
-use Rattle.text.proofs.Room.{put_long}
 use Rattle.rules.specs.Numbers.{Tables, State, state, tables}
 use Rattle.rules.specs.Refusals.{Outcome}
 use Rattle.rules.proofs.Kept.{SameShape}
@@ -70,10 +69,6 @@ filled_long n e = ap (length {A = ℕ}) e ∙ length-replicate n 0
 pub ran_shape : (s u : State) (l ns₀ vs₀ : List ℕ) {ns vs : List ℕ} → ran u ns vs ≡ run_all s l ns₀ vs₀ → SameShape s.lent u.lent
 ran_shape s u l ns₀ vs₀ e =
     subst (λ (w : State). SameShape s.lent w.lent) (sym (ap (λ (r : Ran). r.after) e)) (first_shape s l (room_in l ns₀ vs₀))
-
--- the same text is put
-pub put_same : {o o₁ t u : List ℕ} {at r : ℕ} → t ≡ u → Put o at t r o₁ → Put o at u r o₁
-put_same {o} {o₁} {at = at} {r = r} e p = subst (λ (l : List ℕ). Put o at l r o₁) e p
 
 -- ---- the run: all instructions have room for their answers, which are written, and then the state u
 
@@ -141,10 +136,6 @@ module _ (s : List ℕ) (m l : ℕ) (C : Cells) where
       rw (← p.counted, ← p.ended, ← p.filled, ← q.counted, ← q.ended, ← q.filled, ← w.counted, ← w.ended, ← w.filled)
 
 -- ---- the whole text
-
--- what is put from 0 on ends in the buffer
-pub ends_inside : {o o₁ t : List ℕ} {r : ℕ} → output_room ≤ length o → r ≤ output_room → Put o 0 t r o₁ → Put o 0 t r o₁ × Ends 0 r o₁
-ends_inside {o₁ = o₁} {r = r} room h p = (p, (omega (arith, put_long p), sym (length-take r o₁)))
 
 pub nothing_written : (out s : List ℕ) → length out < output_room → [] ≡ written_in out s
 unfolding written_in

@@ -1,8 +1,7 @@
-use mathlib.Core.Path.{◌≡◌, ap, ◌∙◌}
+use mathlib.Core.Path.{ap, ◌∙◌}
 use Prim.Native.Nat.{ℕ}
 use native.Mathlib.Omega.{arith}
-use lib.ListN.{length, take}
-use lib.Seq.{length-take-le}
+use lib.ListN.{length}
 use Rattle.rules.specs.Lent.{lent_mut}
 use Rattle.rules.specs.Numbers.{state}
 use Rattle.rules.proofs.Kept.{SameShape}
@@ -22,14 +21,6 @@ invariant_of-loaded c =
       cells = omega (arith, ap (length {A = ℕ}) kept.firsts, c.args.loaded.now.cells);
       entries = (omega (arith, kept.rights, c.args.loaded.now.entries.0), omega (arith, kept.grants, c.args.loaded.now.entries.1));
     }
-
-pub put_state-requires : goal.put_state-requires
-put_state-requires c =
-    let asked = c.requires in
-    let answers = c.execute_all-after in
-    let p = c.put_answers-end in
-    let count : length (take c.args.count answers.new.numbers) ≡ c.args.count = length-take-le _ _ (omega (arith, asked.answers.0, answers.auto.numbers)) in
-    omega (arith, asked.sizes.2.head, asked.sizes.2.room, p.ensures.ends, p.auto.out, count)
 
 pub returns-clause-puts : goal.returns-clause-puts
 returns-clause-puts c =
