@@ -1,5 +1,6 @@
 // The lines that are written. A function asks for the room that `put_row` tests, ten digits to a number, and answers by how
 // far it goes at most: an answer takes 34 bytes, a right 18 and a grant 22, since most of their numbers are small.
+// `cells`, `bad` and `core` are a function each: the keyword, the numbers and the room are all that each of them says.
 ghost use Rattle.std.specs.Prelude.{ℕ, List, ◌≡◌, ◌+◌, ◌*◌, ◌<◌, ◌≤◌, length, get_or};
 ghost use Rattle.text.specs.Text.{Puts};
 ghost use Rattle.listing.specs.Words.{bad_word, cells_word};

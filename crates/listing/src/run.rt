@@ -21,14 +21,16 @@ use rules::{Registers, TablesMut};
 // Room for every output, with some to spare: `cells 1`, 5,957 answers, the core, 8,192 rights and 8,192 grants.
 const ROOM: usize = 532480;
 
-// A list at its largest: there is no heap, so that parts of such lists are lent on. It comes from a function of its own, so that a proof knows no more of it than it needs.
+// A list at its largest: there is no heap, so that parts of such lists are lent on. It comes from a function of its own, so
+// that a proof knows no more of it than it needs.
 fn filled<T: Copy, const N: usize>(value: T) -> [T; N]
     ensures { result ≡ replicate N value }
 {
     [value; N]
 }
 
-// Runs the instructions, four numbers each, and writes their answers and the state after them; the place after.
+// Runs the instructions, four numbers each, and writes their answers and the state after them; the place after. `Roomy` is a
+// clause of this and of the next three, and no type: each would have to say besides that the buffer is the one it was lent.
 fn run_instructions(
     loaded: &mut Loaded,
     registers: Registers,
