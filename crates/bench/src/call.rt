@@ -49,7 +49,7 @@ fn tables(lists: &Lists) -> Tables<'_> {
     }
 }
 
-// A block write.
+// A block write. The tables are made in place: `tables` would lend the memory for reading too.
 fn write_block(lists: &mut Lists, address: u32, bytes: &[u8]) -> Reply {
     let n = lists.lengths();
     let memory = &mut lists.memory[..];

@@ -7,7 +7,7 @@ use crate::words::{List, Setting, Start};
 use rules::Registers;
 use std::fmt;
 
-// One more than the largest tables have, so that tables too large can be lent.
+// One more than the largest tables have, so that tables too large can be lent. Arrays of that size: there is no heap.
 const CELLS: usize = 257;
 
 const DIVISIONS: usize = 33;
@@ -125,7 +125,7 @@ impl Lists {
         }
     }
 
-    // All is 0 again.
+    // All is 0 again, in place: `*self = Lists::new()` takes twice the stack.
     fn clear(&mut self) {
         self.first.fill(0);
         self.last.fill(0);

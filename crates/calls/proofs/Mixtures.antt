@@ -54,8 +54,8 @@ abbrev pub view_state_of : {Own : Type 0} → GivenView Own → State
 view_state_of a = state (lent a.0 a.1.0.now) a.1.1.0
 
 -- the lists at exit of `write_block`, which may write the memory alone
-abbrev pub block_lists : {Own End : Type 0} → GivenBlock Own → GivenBlock End → Tables
-block_lists a s = lent a.0 s.1.0.now
+abbrev pub block_lists : {End : Type 0} → GivenBlock End → Tables
+block_lists s = lent s.0 s.1.0.now
 
 -- four numbers
 abbrev pub instruction_of : GivenAll (ℕ × (ℕ × (ℕ × (ℕ × Unit {0})))) → Action
@@ -90,7 +90,7 @@ pub data Call : State → List Action → State → Type 0 where
   execute_all_call : (κs : _) (a : _) (r : Registers) (b : _) → execute-all-reads.Post κs a r b
       → Call (state_of a) (list_of a) (state (lists b) r)
   write_block_call : (κs : _) (a : _) (r : Reply) (b : _) → write-block-reads.Post κs a r b
-      → Call (block_state_of a) (block_of a ∷ []) (state (block_lists a b) r.registers)
+      → Call (block_state_of a) (block_of a ∷ []) (state (block_lists b) r.registers)
   view_call : (κs : _) (a : _) (r : Slice) → view-reads.Post κs a r a → Call (view_state_of a) (view_of a ∷ []) (view_state_of a)
   view_answer_call : (κs : _) (a : _) (r : Result Unit Refusal) → view-answer-reads.Post κs a r a → Call (view_state_of a) (view_of a ∷ []) (view_state_of a)
   view_place_call : (κs : _) (a : _) (r : ViewPlace) → view-place-reads.Post κs a r a → Call (view_state_of a) (view_of a ∷ []) (view_state_of a)

@@ -15,7 +15,7 @@ const LISTING: usize = 65537;
 // Room for every output.
 const OUTPUT: usize = 532480;
 
-// Room for so many bytes. It comes from a function of its own, so that a proof knows its length alone.
+// Room for so many bytes, on the stack: there is no heap. It comes from a function of its own, so that a proof knows its length alone.
 fn room<const N: usize>() -> [u8; N]
     ensures { N ≡ length result }
 {

@@ -1,5 +1,6 @@
 // The monitor's calls for programs in C or Rust that link the static library: each is one call of `monitor`, under its
-// contract. A slice is passed as a pointer and a length. The header is include/cells.h.
+// contract. A slice is passed as a pointer and a length, and each list by itself: that is the
+// C interface. The header is include/cells.h.
 #![tactic(auto)]
 
 ghost use Rattle.std.specs.Prelude.{◌≡◌};

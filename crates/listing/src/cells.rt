@@ -1,4 +1,4 @@
-// The cell lines of a listing.
+// The cell lines of a listing, into lists side by side, as C lends them.
 ghost use Rattle.std.specs.Prelude.{◌≡◌, ◌≤◌, length, take};
 ghost use Rattle.listing.specs.Listing.{cells_at};
 

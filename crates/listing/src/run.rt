@@ -30,7 +30,8 @@ fn filled<T: Copy, const N: usize>(value: T) -> [T; N]
 }
 
 // Runs the instructions, four numbers each, and writes their answers and the state after them; the place after. `Roomy` is a
-// clause of this and of the next three, and no type: each would have to say besides that the buffer is the one it was lent.
+// clause of this and of the next three, and no type: each would have to say besides that the buffer is the one it was lent. The
+// count is said once for the instructions and both lists of answers.
 fn run_instructions(
     loaded: &mut Loaded,
     registers: Registers,

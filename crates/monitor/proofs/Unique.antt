@@ -48,7 +48,7 @@ pub execute_unique : (κs : _) (a : _) (r q : _) (s u : _) → execute-reads.Pos
 execute_unique κs a r q s u e f = (same_reply (one_outcome e.0 f.0), ap (λ o. o.after.lent) (one_outcome e.0 f.0))
 
 pub write_block_unique : (κs : _) (a : _) (r q : _) (s u : _) → write-block-reads.Post κs a r s → write-block-reads.Post κs a q u
-    → (r ≡ q) × (lent a.0 s.1.0.now ≡ lent a.0 u.1.0.now)
+    → (r ≡ q) × (lent s.0 s.1.0.now ≡ lent u.0 u.1.0.now)
 write_block_unique κs a r q s u e f = (same_reply (one_outcome e f), ap (λ o. o.after.lent) (one_outcome e f))
 
 -- the registers, every lent list, and both lists of answers

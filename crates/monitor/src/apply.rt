@@ -33,7 +33,7 @@ fn take_grant(m: usize, rights: &mut [u8], grants: &mut [u16], c: usize, d: usiz
     joined
 }
 
-// What an instruction does on the cell `c` that covers its address, once all its checks hold.
+// What an instruction does on the cell `c` that covers its address, once all its checks hold: a match on its kind.
 pub fn apply(
     tables: &mut TablesMut,
     memory: &mut [u8],

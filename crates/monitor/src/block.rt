@@ -12,7 +12,7 @@ use crate::look::{held_at, place_of};
 use rules::{Refusal, Registers, Tables};
 
 // Whether `n` bytes from `x` on do not run past `last`. The sum cannot wrap: it has 64 bits, and is made only for a block
-// of no more bytes than there are addresses.
+// of no more bytes than there are addresses: the test that the wrong program `length_added_with_a_wrap` moves.
 #[tactic(auto, using(crate::proofs::Locating::beyond_cell), unfolding(rules::specs::Blocks::within_cell))]
 pub fn within_cell(last: u32, x: u32, n: usize) -> bool
     ensures { result ≡ within_cell last x n }
@@ -44,7 +44,7 @@ pub fn locate(
     Ok(place_of(tables, c, x))
 }
 
-// Fills a part of the memory with as many bytes.
+// Fills a part of the memory with as many bytes: the function to which a part is lent on, as document 01 names that form.
 pub fn copy_into(part: &mut [u8], bytes: &[u8])
     requires { length bytes.now ≡ length part.old }
     ensures { part.new ≡ bytes.now }

@@ -11,7 +11,8 @@ fn ended(last: &[u32], x: u32) -> u32
 }
 
 // The cell that covers `x`, in tables whose cells are sound. Cells rise, so it can only be the one after those that end
-// below `x`. That is no search by halving, as `partition_point` is: document 02 has that as request #105.
+// below `x`. No search by halving, as `partition_point` is: that is request #105 of document 02,
+// and a request is built when its turn comes.
 pub fn find(first: &[u32], last: &[u32], x: u32) -> Option<usize>
     requires { CellsRise first.now last.now }
     ensures { result ≡ found_in first.now last.now x }

@@ -82,7 +82,7 @@ pub fn judge_invalidate(valid: bool, held: u8, alone: bool) -> Result<(), Refusa
     check(alone, Refusal::OtherHolds)
 }
 
-// The checks of an instruction on the cell `c` that covers its address.
+// The checks of an instruction on the cell `c` that covers its address: a match on its kind, as document 01 names that form.
 pub fn judge(
     tables: Tables,
     memory: &[u8],

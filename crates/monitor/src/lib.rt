@@ -46,7 +46,7 @@ fn begin(tables: Tables, memory: &[u8], registers: Registers) -> Result<(), Refu
     }
 }
 
-// Instructions in turn, four numbers each, with their answers in two lent lists: as many as are whole and have room for
+// Instructions in turn, four numbers each, with their answers in two lent lists, as C lends them: as many as are whole and have room for
 // both answers. The tables are checked once; where check 1, 2 or 3 fails, every instruction is answered with it.
 pub fn execute_all(
     tables: &mut TablesMut,
@@ -79,7 +79,7 @@ pub fn execute_all(
     }
 }
 
-// One instruction, given as four numbers: a list of one.
+// One instruction, given as four numbers, as C passes them: a list of one.
 pub fn execute(
     tables: &mut TablesMut,
     memory: &mut [u8],
@@ -133,7 +133,7 @@ pub fn write_block(
     x: u32,
     bytes: &[u8],
 ) -> Reply
-    ensures { came result (lent tables.entry memory.new)
+    ensures { came result (lent tables.exit memory.new)
         ≡ performed (state (lent tables.entry memory.old) registers) (block_write x bytes.now) }
 {
     match place_block(rules::WRITE, tables, memory, registers, x, bytes.len()) {
@@ -166,7 +166,8 @@ pub fn view<'a>(
     }
 }
 
-// The number and the value of a read view of the same values.
+// The number and the value of a read view of the same values. By a match, whose arms are those of `view`; the wrong program
+// `view_answer_hides_the_number` changes one.
 pub fn view_answer(
     tables: Tables,
     memory: &[u8],

@@ -17,8 +17,8 @@ pub fn room_for(instructions: usize, numbers: usize, values: usize) -> usize
 }
 
 // The first `count` instructions in turn, on tables and registers that checks 1, 2 and 3 let through: an instruction keeps
-// them so, and a refused one does not stop the rest. The lists are lent whole, with the count beside them: what stands past
-// the answers in the two lists that C lends stays.
+// them so, and a refused one does not stop the rest. The count is said once, beside the lists: as slices each of the
+// three would say its own, and every contract that they agree.
 pub fn run_list(
     tables: &mut TablesMut,
     memory: &mut [u8],

@@ -8,7 +8,8 @@ use rules::Tables;
 // The word at which a switch may enter a division: bytes 11, 0, 0, 0.
 const ENTRY_WORD: u32 = 11;
 
-// The rights of division `d` on cell `c`.
+// The rights of division `d` on cell `c`. A cell is a parameter beside the tables, and no struct with them: a search, a judge and
+// an effect each have one cell, and hand it on.
 pub fn held_at(tables: Tables, c: usize, d: usize) -> u8
     requires { c * tables.m + d < length tables.rights.now }
     ensures { result ≡ get_or tables.entry.rights.now (c * tables.entry.m + d) 0 }

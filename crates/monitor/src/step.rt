@@ -15,7 +15,7 @@ use crate::judge::judge;
 use crate::reply::{Accepted, Reply};
 use rules::{Instruction, Refusal, Registers, TablesMut};
 
-// A reply beside the listing position of its instruction.
+// A reply beside the listing position of its instruction. `Placed` has the instruction itself, as document 01 names that form.
 #[derive(Clone, Copy)]
 pub struct Answered {
     pub position: usize,

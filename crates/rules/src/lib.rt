@@ -90,7 +90,7 @@ pub struct Tables<'a> {
 }
 
 // The same, where a call may write the marks, the rights and the grants. It is a struct of its own, as a slice's `IterMut` is:
-// no type is a reference for reading in one call and for writing in another.
+// one that is generic in its references would need a way of reading them in every contract.
 #[derive(Drop)]
 pub struct TablesMut<'a> {
     pub m: usize,
@@ -279,15 +279,16 @@ fn source_operand(m: u32, d: u32, y: u32, z: u32) -> bool
     (y < m) & (y != d) & (z == 0)
 }
 
-// The lowest eight bits of a number: all of it where it is at most 255. A cast alone would need that bound, which only the
-// test of the operand beside it gives.
+// The lowest eight bits of a number: all of it where it is at most 255, which the ranges of the operand tests say, as document
+// 01 has them; by `try_from` the same bound would be tested a second time.
 fn low_byte(x: u32) -> u8
     ensures { result ≡ x % 256 }
 {
     (x % 256) as u8
 }
 
-// An instruction kept beside its position if its operands are in their ranges, else refusal 5.
+// An instruction kept beside its position if its operands are in their ranges, else refusal 5. Test and instruction are two
+// parameters, as in `ranged`: else each arm of `decode` would say `then_some`.
 fn keep(at: usize, in_range: bool, instruction: Instruction) -> Result<Placed, Refusal>
     ensures { kept result ≡ beside at (ranged in_range instruction) }
 {

@@ -122,9 +122,11 @@ module _ (l : List ℕ) (place m : ℕ) (h : place + m ≤ length l) where
 
 -- what is said of the entries of a cell's row is said of the tables'
 module _ {t : Tables} {c : ℕ} (w : Within t c) where
-  pub row_grants : every (λ d. sound_grant t.M d (get_or (row t.grants (c * t.M) t.M) d 0)) (length (row t.grants (c * t.M) t.M))
+  pub row_grants : every (λ d. sound_grant (length (row t.grants (c * t.M) t.M)) d (get_or (row t.grants (c * t.M) t.M) d 0)) (length (row t.grants (c * t.M) t.M))
       ≡ every (λ d. sound_grant t.M d (grant_of t c d)) t.M
-  row_grants = row_every _ _ _ w.in_grants (sound_grant t.M)
+  row_grants =
+      ap (λ (m : ℕ). every (λ d. sound_grant m d (get_or (row t.grants (c * t.M) t.M) d 0)) (length (row t.grants (c * t.M) t.M))) (row_length _ _ _ w.in_grants)
+      ∙ row_every _ _ _ w.in_grants (sound_grant t.M)
 
   pub row_holders : count_by (λ right. ltb 0 right) (row t.rights (c * t.M) t.M) ≡ holders t c
   unfolding holders

@@ -39,14 +39,14 @@ fn sound_grants(m: u16, row: &[u16]) -> bool
 
 // The same of a cell's row. 32 divisions are a case of their own: the compiler then knows how long a row is, and unrolls
 // it. Without this the check of full tables takes nearly half as long again.
-fn sound_offers(m: usize, row: &[u16]) -> bool
-    requires { (length row.now ≡ m) × (m ≤ 32) }
-    ensures { result ≡ every (λ d. sound_grant m d (get_or row.now d 0)) (length row.now) }
+fn sound_offers(row: &[u16]) -> bool
+    requires { length row.now ≤ 32 }
+    ensures { result ≡ every (λ d. sound_grant (length row.now) d (get_or row.now d 0)) (length row.now) }
 {
-    if m == 32 {
+    if row.len() == 32 {
         sound_grants(32, row)
     } else {
-        sound_grants(m as u16, row)
+        sound_grants(row.len() as u16, row)
     }
 }
 
@@ -118,7 +118,7 @@ fn sound_cell(tables: Tables, memory: &[u8], c: usize) -> bool
     let mark = tables.marks[c];
     sound_range(tables, memory, c)
         & (mark <= 1)
-        & sound_offers(tables.m, &tables.grants[start..end])
+        & sound_offers(&tables.grants[start..end])
         & sound_holders(mark, &tables.rights[start..end])
         & sound_order(tables, c)
 }

@@ -65,7 +65,8 @@ fn fields_at(s: &[u8], at: usize, k: usize) -> Option<Row>
     Some(Row { next: next + 1, v })
 }
 
-// The line of a keyword and k numbers at a place. A row holds five, so no line of more is right; k may be any number.
+// The line of a keyword and k numbers at a place. A row holds five, so no line of more is right; k may be any
+// number, as the contract has it and the wrong program `five_numbers_refused` shows.
 #[tactic(auto, using(crate::proofs::Lines::row_too_many, crate::proofs::Lines::row_fields, crate::proofs::Lines::row_no_word))]
 pub fn row_at(s: &[u8], at: usize, word: &[u8], k: usize) -> Option<Row>
     ensures { result ≡ option_of_row (row_at s.now at word.now k) }

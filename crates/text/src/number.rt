@@ -12,14 +12,6 @@ pub struct Number {
     pub next: usize,
 }
 
-// A run of digits: its value, and the place after it. The value is kept at 4,294,967,296 where it is more, so that it
-// does not wrap however long the run is.
-#[derive(Clone, Copy)]
-struct Run {
-    value: u64,
-    next: usize,
-}
-
 // The byte at a place, or none past the end. So no reader asks where the text ends.
 pub fn peek(s: &[u8], at: usize) -> Option<u8>
     ensures { result ≡ byte_or_none (peek_at s.now at) }
@@ -35,11 +27,12 @@ fn shift(value: u64, c: u8) -> u64
     (10 * value + u64::from(c - b'0')).min(TOO_LARGE)
 }
 
-// The run of digits at a place, which may be empty. By `take_while` the digits would be passed twice, for how many they are
-// and for their value.
-fn run_at(s: &[u8], at: usize) -> Run
-    ensures value { result.value ≡ min (value_from 0 (drop at s.now)) 4294967296 }
-    ensures next { result.next ≡ at + digits_in (drop at s.now) }
+// The run of digits at a place, which may be empty: its value, and the place after it. The value is kept at 4,294,967,296 where
+// it is more, so that it does not wrap however long the run is. A loop: what `shift` asks of the value so far is its
+// invariant, and a `fold` would have to ask it of every value.
+fn run_at(s: &[u8], at: usize) -> (u64, usize)
+    ensures value { result.0 ≡ min (value_from 0 (drop at s.now)) 4294967296 }
+    ensures next { result.1 ≡ at + digits_in (drop at s.now) }
 {
     let mut value = 0;
     let mut next = at;
@@ -47,15 +40,15 @@ fn run_at(s: &[u8], at: usize) -> Run
         value = shift(value, c);
         next += 1;
     }
-    Run { value, next }
+    (value, next)
 }
 
-// The number at a place. It goes as far as there are digits: what may stand behind it is for the caller to test.
+// The number at a place, read digit by digit: `parse` takes `+1` and `00`, and no text that goes on. It goes as far as there are digits: what may stand behind it is for the caller to test.
 #[tactic(auto, using(crate::proofs::Numbers::number_large, crate::proofs::Numbers::number_plain, crate::proofs::Numbers::number_zero, crate::proofs::Numbers::number_padded, crate::proofs::Numbers::number_empty))]
 pub fn number_at(s: &[u8], at: usize) -> Option<Number>
     ensures { result ≡ option_of_field (number_at s.now at) }
 {
-    let Run { value, next } = run_at(s, at);
+    let (value, next) = run_at(s, at);
     let value = u32::try_from(value).ok()?;
     let digits = next - at;
     if digits == 0 {

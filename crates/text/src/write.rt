@@ -1,4 +1,5 @@
-// Writing where there is room, which each function requires; `put` tests it. Each writes at a place and answers the
+// Writing where there is room, which each function requires; `put` tests it. Digit by digit: `put_number` promises room for ten
+// digits or nothing, and that what is written is `decimal`; `write!` says neither. Each writes at a place and answers the
 // place after what it wrote.
 ghost use Rattle.std.specs.Prelude.{◌≡◌, ◌+◌, ◌*◌, ◌≤◌, ◌<◌, length, set};
 ghost use Rattle.text.specs.Text.{Puts, decimal_in, decimal, fields_text};
