@@ -16,6 +16,7 @@ const LISTING: usize = 65537;
 const OUTPUT: usize = 532480;
 
 // Room for so many bytes, on the stack: there is no heap. It comes from a function of its own, so that a proof knows its length alone.
+// `listing` has one for its lists, which is not public: it would need a theorem and an edit, for the one line.
 fn room<const N: usize>() -> [u8; N]
     ensures { N ≡ length result }
 {

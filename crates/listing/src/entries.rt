@@ -15,7 +15,7 @@ pub struct Entry<T> {
     pub value: T,
 }
 
-// Of n cells.
+// A right line, of n cells. The lines are a function each, as document 01 has them: what is alike in them is `fill`'s.
 #[tactic(auto, using(text::proofs::Lines::no_row, text::proofs::Lines::found_row, crate::proofs::Rows::rights_below), unfolding(crate::specs::Lines::right_at))]
 pub fn right_at(s: &[u8], at: usize, n: u32, size: Size) -> Option<Entry<u8>>
     requires { n ≤ 256 }
@@ -35,6 +35,7 @@ pub fn grant_at(s: &[u8], at: usize, n: u32, size: Size) -> Option<Entry<u16>>
     ensures { result ≡ option_of_entry (grant_at n size.m s.now at) }
 {
     let row = grant_row(s, at, n, size.m)?;
+    // the entry is one sum, as document 01 writes it
     Some(Entry {
         next: row.next,
         key: row.v[0] as usize * size.m as usize + row.v[1] as usize,

@@ -1,5 +1,6 @@
 // The lines of a listing, kind by kind: the keyword, how many numbers, and their limits. Each kind is a function of one line, as
-// document 01 has a line for it: a table of these constants would need a reader for the limits that are M, N or L.
+// document 01 has a line for it: a table of these constants would need a reader for the limits that are M, N or L. A text and a place
+// in it are two parameters, as `text` takes them.
 ghost use Rattle.std.specs.Prelude.{◌≡◌};
 ghost use Rattle.text.specs.Line.{option_of_row};
 ghost use Rattle.listing.specs.Lines.{head_row, size_row, cell_row, right_row, grant_row, byte_row, core_row, do_row};

@@ -1,6 +1,7 @@
 // The lines that are written. A function asks for the room that `put_row` tests, ten digits to a number, and answers by how
 // far it goes at most: an answer takes 34 bytes, a right 18 and a grant 22, since most of their numbers are small.
-// `cells`, `bad` and `core` are a function each: the keyword, the numbers and the room are all that each of them says.
+// `cells`, `bad` and `core` are a function each, and so are `right` and `grant`: the keyword, the numbers and the room are all that
+// each of them says.
 ghost use Rattle.std.specs.Prelude.{ℕ, List, ◌≡◌, ◌+◌, ◌*◌, ◌<◌, ◌≤◌, length, get_or};
 ghost use Rattle.text.specs.Text.{Puts};
 ghost use Rattle.listing.specs.Words.{bad_word, cells_word};
@@ -99,6 +100,7 @@ fn put_grant(out: &mut [u8], at: usize, size: Size, e: usize, grant: u16) -> usi
         return at;
     }
     let e = e as u32;
+    // one remainder and one quotient of the entry, as document 01 writes it
     let grant = u32::from(grant);
     put_row(
         out,

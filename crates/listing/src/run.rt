@@ -22,7 +22,8 @@ use rules::{Registers, TablesMut};
 const ROOM: usize = 532480;
 
 // A list at its largest: there is no heap, so that parts of such lists are lent on. It comes from a function of its own, so
-// that a proof knows no more of it than it needs.
+// that a proof knows no more of it than it needs. `cellrun` has a `room` of its own: a public function would need a theorem and an
+// edit, for the one line.
 fn filled<T: Copy, const N: usize>(value: T) -> [T; N]
     ensures { result ≡ replicate N value }
 {

@@ -19,7 +19,8 @@ fn grant_entry(y: u32, z: u8) -> u16
     y as u16 + 256 * (z as u16)
 }
 
-// The grant of `y` on cell `c` joins the rights of `d` and is gone; the rights of `d` afterwards.
+// The grant of `y` on cell `c` joins the rights of `d` and is gone; the rights of `d` afterwards. The grant's rights are one quotient
+// of the number that C lends.
 fn take_grant(m: usize, rights: &mut [u8], grants: &mut [u16], c: usize, d: usize, y: usize) -> u8
     requires { (c * m + d < length rights.old) × (c * m + y < length grants.old) }
     ensures value { result ≡ join (get_or rights.old (c * m + d) 0) (rights_in (get_or grants.old (c * m + y) 0)) }
@@ -33,7 +34,9 @@ fn take_grant(m: usize, rights: &mut [u8], grants: &mut [u16], c: usize, d: usiz
     joined
 }
 
-// What an instruction does on the cell `c` that covers its address, once all its checks hold: a match on its kind.
+// What an instruction does on the cell `c` that covers its address, once all its checks hold: a match on its kind, the form that
+// document 01 names. `same_lists`, here and where it is handed on, tells of what the `&mut` points at, before and after: no
+// type of one value says that.
 pub fn apply(
     tables: &mut TablesMut,
     memory: &mut [u8],

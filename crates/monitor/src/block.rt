@@ -25,7 +25,8 @@ pub fn within_cell(last: u32, x: u32, n: usize) -> bool
     }
 }
 
-// Checks 6 to 9 on a block of `n` bytes at `x`, with the right `needed`; its place where they hold.
+// Checks 6 to 9 on a block of `n` bytes at `x`, with the right `needed`; its place where they hold. Address and length are two
+// numbers, as the views' contracts take them, and no struct: each call has one block, and hands it on.
 pub fn locate(
     needed: u8,
     tables: Tables,

@@ -17,7 +17,8 @@ pub fn held_at(tables: Tables, c: usize, d: usize) -> u8
     tables.rights[c * tables.m + d]
 }
 
-// Whether the entry `g` is a grant that names `d`. An entry of 0 is none, though its target would read as division 0.
+// Whether the entry `g` is a grant that names `d`. An entry of 0 is none, though its target would read as division 0. The target
+// is one remainder of the number that C lends.
 #[tactic(auto, unfolding(rules::specs::Instructions::grant_names))]
 pub fn grant_names(g: u16, d: u32) -> bool
     ensures { result ≡ grant_names g d }

@@ -31,7 +31,7 @@ pub struct Accepted(pub u32, pub Registers);
 
 impl Reply {
     // The reply to a call: a refusal leaves the registers as they were.
-    pub fn new(answer: Result<Accepted, Refusal>, before: Registers) -> Reply
+    pub(crate) fn new(answer: Result<Accepted, Refusal>, before: Registers) -> Reply
         ensures { result ≡ replied answer before }
     {
         match answer {

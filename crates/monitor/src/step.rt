@@ -42,7 +42,7 @@ pub fn step(
 }
 
 // What four numbers at a listing position answer and do, on tables and registers that checks 1, 2 and 3 let through. The
-// answer stays beside the position, so that it is written where it belongs.
+// answer stays beside the position, so that it is written where it belongs. The four numbers are parameters, as C passes them.
 pub fn perform(
     tables: &mut TablesMut,
     memory: &mut [u8],

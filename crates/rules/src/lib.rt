@@ -215,12 +215,15 @@ impl Instruction {
     }
 }
 
-// An instruction kept beside its listing position.
+// An instruction kept beside its listing position, a struct as document 01 names that form.
 #[derive(Clone, Copy, PartialEq, Eq)]
 pub struct Placed {
     pub position: usize,
     pub instruction: Instruction,
 }
+
+// The operand tests, a function each. Document 01 names the form, ranges on operands: a range says its bound, and no pattern
+// takes a const parameter.
 
 // Whether both operands are unused.
 #[tactic(auto, unfolding(crate::specs::Instructions::no_operands))]

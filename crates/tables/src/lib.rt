@@ -14,7 +14,8 @@ ghost use Rattle.tables.specs.Check.{Within, excess, cell_below, tables_checked}
 
 use rules::{Refusal, Tables};
 
-// Whether the entry `grant` of the granter `d` is sound among `m` divisions.
+// Whether the entry `grant` of the granter `d` is sound among `m` divisions. Target and rights come by one remainder and one
+// quotient, which the loop over a row makes with vectors of the numbers that C lends.
 #[tactic(auto, unfolding(rules::specs::Sound::sound_grant))]
 fn sound_grant(m: u16, d: u16, grant: u16) -> bool
     ensures { result ≡ sound_grant m d grant }
@@ -25,7 +26,8 @@ fn sound_grant(m: u16, d: u16, grant: u16) -> bool
 }
 
 // Whether every entry of a row of grants, which begins with division 0's, is sound. A `for`, as in `count_holders`: by
-// `fold` and `sum` the check of full tables takes 6 percent longer.
+// `fold` and `sum` the check of full tables takes 6 percent longer. That a row has at most 32 entries is a clause of four functions,
+// and no type: a row is a slice of one list and of another, for the time of a call.
 fn sound_grants(m: u16, row: &[u16]) -> bool
     requires { length row.now ≤ 32 }
     ensures { result ≡ every (λ d. sound_grant m d (get_or row.now d 0)) (length row.now) }
