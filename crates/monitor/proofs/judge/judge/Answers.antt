@@ -1,7 +1,7 @@
 -- What a look-up requires follows from what the public call tested and from the operands of the arm's kind. At an arm's end
 -- the law of its kind turns what was looked up and the judge's answer into the first of its needs to fail. The arms that read a
 -- word come first.
-use Rattle.monitor.proofs.Readiness.{cell_there, row_there, own_rights, source_grant, covers_address, target_rights, place_there, word_there}
+use Rattle.monitor.proofs.Readiness.{cell_there, row_there, own_rights, covers_address, target_rights, place_there, word_there}
 use Rattle.monitor.proofs.Judging.{load_judged, store_judged, protect_judged, grant_judged, receive_judged, transfer_judged, invalidate_judged, revalidate_judged, exclusive_judged, fetch_judged, switch_judged}
 use mathlib.Core.Path.{refl, sym, ◌∙◌}
 use Rattle.rules.specs.Lent.{lent}
