@@ -29,7 +29,7 @@ use Rattle.rules.specs.Sound.{sound_grant, holders, after_cell_before, sound_cel
 use Rattle.rules.specs.Refusals.{out_of_bounds, unsound, well_sized, first_failing}
 use Rattle.rules.proofs.Below.{by_test, every_at, every_all, every_same, count_same}
 use Rattle.rules.proofs.Below.{lowest_le, lowest_passes, lowest_before, lowest_none, lowest_is}
-use Rattle.rules.proofs.Sizes.{sized, row_below, entry_below, entries_few}
+use Rattle.rules.proofs.Sizes.{sized, row_below, entry_below}
 use Rattle.rules.proofs.SoundCells.{lowest_sound, sound_lowest}
 use Rattle.tables.specs.Check.{Within, excess, cell_below, tables_checked}
 
@@ -86,7 +86,6 @@ pub cell_within : (t : Tables) (c : ℕ) → well_sized t ≡ true → c < N t �
 cell_within t c e h =
     let s = sized t e in
     let w : c * t.M + t.M ≤ N t * t.M = row_below c (N t) t.M h in
-    let f : N t * t.M ≤ 8192 = entries_few s.within in
     record {
       in_first = h;
       in_last = omega arith;
@@ -94,7 +93,6 @@ cell_within t c e h =
       in_marks = omega arith;
       in_rights = omega arith;
       in_grants = omega arith;
-      entries = omega arith;
       divisions = s.within.divisions;
       bytes = s.within.bytes;
     }

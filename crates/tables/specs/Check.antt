@@ -21,7 +21,6 @@ pub record Within (t : Tables) (c : ℕ) : Type 0 where
   pub in_marks : c < length t.marks
   pub in_rights : c * t.M + t.M ≤ length t.rights
   pub in_grants : c * t.M + t.M ≤ length t.grants
-  pub entries : c * t.M + t.M ≤ 8192
   pub divisions : t.M ≤ 32
   pub bytes : L t ≤ 65536
 
