@@ -45,10 +45,13 @@ pub fn locate(
     Ok(place_of(tables, c, x))
 }
 
-// Fills a part of the memory with as many bytes: the function to which a part is lent on, as document 01 names that form.
+// Fills a part of the memory with as many bytes: the function to which a part is lent on, as document 01 names that form. Byte by
+// byte: by `copy_from_slice` the static library would need `memmove` from outside.
 pub fn copy_into(part: &mut [u8], bytes: &[u8])
     requires { length bytes.now ≡ length part.old }
     ensures { part.new ≡ bytes.now }
 {
-    part.copy_from_slice(bytes);
+    for (i, byte) in bytes.iter().enumerate() {
+        part[i] = *byte;
+    }
 }
