@@ -110,7 +110,9 @@ pub fn execute(
     }
 }
 
-// Checks 1, 2 and 3, and then those on a block of `n` bytes at `x`, with the right `needed`; its place where they hold.
+// Checks 1, 2 and 3, and then those on a block of `n` bytes at `x`, with the right `needed`; its place where they hold. The hint saves
+// 144 bytes of stack: the tables are a struct, which a call by itself would copy.
+#[inline(always)]
 fn place_block(
     needed: u8,
     tables: Tables,
