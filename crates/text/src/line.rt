@@ -13,27 +13,27 @@ pub struct Row {
 }
 
 impl Row {
-    // The row, where its number j is from least on and below limit; otherwise, and where there is no number j, none. So
-    // a kind of line is a call of `row_at` with a call of this behind it for each number that has limits.
-    #[tactic(auto, using(crate::proofs::Lines::within_no_entry, crate::proofs::Lines::within_low, crate::proofs::Lines::within_high, crate::proofs::Lines::within_limits))]
+    // `within` of a row that is right.
     pub fn within(self, j: usize, least: u32, limit: u32) -> Option<Row>
         ensures { result ≡ option_of_row (row_within (row_of self) j least limit) }
     {
-        let x = *self.v.get(j)?;
-        if least <= x && x < limit {
-            Some(self)
-        } else {
-            None
-        }
+        within(Some(self), j, least, limit)
     }
 }
 
-// The same of what may be no row: of none, none.
-#[tactic(auto, using(crate::proofs::Lines::within_no_row))]
+// The row, where its number j is from least on and below limit; otherwise, and where there is no row or no number j, none. So
+// a kind of line is a call of `row_at` with a call of this behind it for each number that has limits.
+#[tactic(auto, using(crate::proofs::Lines::within_no_row, crate::proofs::Lines::within_no_entry, crate::proofs::Lines::within_low, crate::proofs::Lines::within_high, crate::proofs::Lines::within_limits))]
 pub fn within(row: Option<Row>, j: usize, least: u32, limit: u32) -> Option<Row>
     ensures { result ≡ option_of_row (row_within (row_told row) j least limit) }
 {
-    row?.within(j, least, limit)
+    let row = row?;
+    let x = *row.v.get(j)?;
+    if least <= x && x < limit {
+        Some(row)
+    } else {
+        None
+    }
 }
 
 // Whether a word stands at a place. Where it does the place after it is a `usize`, which `row_at` then computes.
