@@ -65,6 +65,29 @@ unfolding cell_row
 mark_below s at = within_below (row_at s at cell_word 4) 3 0 2 refl (omega arith)
 
 -- so few cells and divisions that their product is small
+abbrev pub FewNamed : Row → Type 0
+FewNamed r = (field r 0 ≤ 256) × (field r 1 ≤ 32)
+
+few_named : (r : Row) (n m : ℕ) → n ≤ 256 → m ≤ 32 → FewNamed (row_within (row_within r 0 0 n) 1 0 m)
+few_named r n m h k = (
+  within_either (row_within r 0 0 n) 1 0 m (λ (r : Row). field r 0 ≤ 256) (omega (arith, within_most r 0 0 n refl)) (omega arith),
+  omega (arith, within_most (row_within r 0 0 n) 1 0 m refl),
+)
+
+pub right_few : (n m : ℕ) (s : List ℕ) (at : ℕ) → n ≤ 256 → m ≤ 32 → FewNamed (right_row n m s at)
+unfolding right_row
+right_few n m s at h k =
+    within_either (row_within (row_within (row_at s at right_word 3) 0 0 n) 1 0 m) 2 1 8 FewNamed
+    (few_named (row_at s at right_word 3) n m h k) (omega arith, omega arith)
+
+pub grant_few : (n m : ℕ) (s : List ℕ) (at : ℕ) → n ≤ 256 → m ≤ 32 → FewNamed (grant_row n m s at)
+unfolding grant_row
+grant_few n m s at h k =
+    let r = row_within (row_within (row_at s at grant_word 4) 0 0 n) 1 0 m in
+    within_either (row_within r 2 0 m) 3 1 8 FewNamed
+    (within_either r 2 0 m FewNamed (few_named (row_at s at grant_word 4) n m h k) (omega arith, omega arith))
+    (omega arith, omega arith)
+
 pub product_small : (c m : ℕ) → c ≤ 256 → m ≤ 32 → c * m ≤ 8192
 product_small c m h k = mul-le-mul {n₁ = c} {m₁ = m} {n₂ = 256} {m₂ = 32} h k
 
@@ -89,6 +112,12 @@ module _ (n m : ℕ) (s : List ℕ) (at : ℕ) where
   target_most =
       within_either granted 3 1 8 (λ (r : Row). field r 2 ≤ m)
       (within_most (row_within (row_within (row_at s at grant_word 4) 0 0 n) 1 0 m) 2 0 m refl) (omega arith)
+
+  pub target_below : 1 ≤ m → field (grant_row n m s at) 2 < m
+  unfolding grant_row
+  target_below h =
+      within_either granted 3 1 8 (λ (r : Row). field r 2 < m)
+      (within_below (row_within (row_within (row_at s at grant_word 4) 0 0 n) 1 0 m) 2 0 m refl h) h
 
 -- ---- a right line names an entry of its list
 

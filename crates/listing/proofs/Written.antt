@@ -18,10 +18,10 @@ use Rattle.listing.specs.Output.{line1, line3, line4, lines_of, right_line, gran
 -- a line for which there is room: the text, and where it ends
 module _ (w v : List ℕ) (k : ℕ) {l l₁ : List ℕ} {at r : ℕ} (few : k ≤ 5) (room : at + (length w + 11 * k + 1) ≤ length l)
     (p : Put l at (row_in l at w v k) r l₁) where
-  row_put : Put l at (row_text w v k) r l₁
+  pub row_put : Put l at (row_text w v k) r l₁
   row_put = rw (row_fits l at w v k room) at p
 
-  row_short : r ≤ at + (length w + 11 * k + 1)
+  pub row_short : r ≤ at + (length w + 11 * k + 1)
   row_short = omega (arith, row_put.place, row_length w v k few)
 
 -- a line of one, three or four numbers, of which no more were given

@@ -1,4 +1,4 @@
-// What a listing keeps within bounds. A value of these types is within them, so that no function asks for it again.
+// What a listing keeps within bounds. A value of these types is within them, so that no function asks for these bounds again.
 ghost use Rattle.std.specs.Prelude.{◌≡◌, ◌≤◌, length};
 
 use rules::TablesMut;
@@ -19,7 +19,7 @@ pub struct Size {
     ghost bytes: { l ≤ 65536 },
 }
 
-// The tables and the memory of a listing, which are of its size.
+// The tables and the memory of a listing: of its M, and with no more cells and entries than a listing may have.
 #[derive(Drop)]
 pub struct Loaded<'a> {
     pub size: Size,

@@ -21,7 +21,7 @@ use Rattle.monitor.proofs.view_answer.Reads as view-answer-reads
 use Rattle.monitor.proofs.view_place.Reads as view-place-reads
 use Rattle.monitor.proofs.view.Reads as view-reads
 
--- the lists at exit of a call that may write the marks, the rights, the grants and the memory; and that they are those it was lent
+-- the lists at exit of a call that may write the marks, the rights, the grants and the memory
 abbrev pub lists : {Rest : Type 0} → MutBor LentTablesMut × (MutSlice × Rest) → Tables
 lists s = lent_mut s.0.now s.1.0.now
 

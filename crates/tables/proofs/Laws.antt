@@ -108,7 +108,7 @@ module _ (l : List ℕ) (place m : ℕ) (h : place + m ≤ length l) where
   entry_of : (d : ℕ) → d < m → get_or (row l place m) d 0 ≡ get_or l (place + d) 0
   entry_of d k = rw (get_or-take, get_or-drop)
 
-  row_every : (p : ℕ → ℕ → Bool)
+  pub row_every : (p : ℕ → ℕ → Bool)
       → every (λ d. p d (get_or (row l place m) d 0)) (length (row l place m)) ≡ every (λ d. p d (get_or l (place + d) 0)) m
   row_every p = rw row_length (every_same _ _ m (λ d k. ap (p d) (entry_of d k)))
 
@@ -268,11 +268,11 @@ unfolding lowest_unsound
 unsound_first t c h f e = first_below _ (N t) (Some c) (h, ap not e, λ k l. ap not (f k l))
 
 module _ (t : Tables) where
-  unsound_le : lowest_unsound t ≤ N t
+  pub unsound_le : lowest_unsound t ≤ N t
   unfolding lowest_unsound
   unsound_le = lowest_le _ (N t)
 
-  unsound_before_end : (lowest_unsound t ≡ N t → ⊥) → sound_tables t ≡ false
+  pub unsound_before_end : (lowest_unsound t ≡ N t → ⊥) → sound_tables t ≡ false
   unsound_before_end n = by_test (sound_tables t) (λ e. absurd (n (sound_lowest t e))) (λ e. e)
 
 -- ---- what the check answers
