@@ -1,0 +1,5 @@
+-- The call that is exported ensures it, of the tables as one struct.
+use Rattle.cells.proofs.cells_write_block.Goals as goal
+
+pub returns : goal.returns
+returns c = c.write_block.ensures
